@@ -1,0 +1,123 @@
+-- White_Space deleted: it goes piece by piece, where a piece is well-formed. Assumes nothing.
+use mathlib.Core.Path.{_≡_, refl, sym, ap, _∙_}
+use mathlib.Core.Bool.{Bool, true, false, not, cond}
+use mathlib.Core.List.{List, [], _∷_, _++_, append-nil}
+use Prim.Native.Nat.{ℕ, zero, suc, pred, _+_, _*_, _%_, _≤_, _<_, zero-le}
+use native.Mathlib.Nat.{le-of-suc-le-suc, not-suc-le-zero}
+use native.Mathlib.Omega.{arith}
+use lib.Dec.{leb, ltb}
+use lib.ListN.{length, getD, replicate, List·getD-append}
+use borrow.Author.Tests.{ltb-true, ltb-false}
+use Rattle.text.specs.declared.utf8.Formed.the-variants.{Well}
+use Rattle.text.specs.White.{mem, whites, isWhite}
+use Rattle.text.specs.Utf8.{cont, inRange, charLen, formedFrom, formed}
+use Rattle.text.specs.Chars.{code}
+use Rattle.text.specs.Lines.{trim}
+use Rattle.text.specs.Delete.{onto, darkAt, deleteFrom, delete, Blank, is-space, is-tab, is-return, is-newline, Blanks, no-blank, a-blank}
+use Rattle.text.proofs.RowLaws.{char-le, char-append}
+use Rattle.text.proofs.WalkLaws.{plain-char}
+use Rattle.text.proofs.CharLaws.{well-lead}
+use Rattle.text.proofs.FormedLaws.{behind-le, formed-front}
+use Rattle.text.proofs.LineLaws.{Ends, trim-ends}
+
+-- ---- joining
+
+onto-append : (t : Bool) (b : ℕ) (xs ys : List ℕ) → onto t b (xs ++ ys) ≡ onto t b xs ++ ys
+onto-append true b xs ys = refl
+onto-append false b xs ys = refl
+
+keep-any : (t : Bool) (s : List ℕ) → deleteFrom t 0 s ≡ delete s
+unfolding deleteFrom
+keep-any t [] = refl
+keep-any t (b ∷ bs) = refl
+
+code-append : (n : ℕ) (xs ys : List ℕ) → 0 < length xs → n ≤ length xs → code n (xs ++ ys) ≡ code n xs
+unfolding code
+code-append n xs ys h l = go (ltb n 2) (ltb n 3) (ltb n 4) refl refl refl
+  where
+    same : (i : ℕ) → i < length xs → getD (xs ++ ys) i 0 ≡ getD xs i 0
+    same i m = List·getD-append xs ys 0 i m
+
+    Code : (t u v : Bool) → List ℕ → ℕ
+    Code t u v s =
+        cond t (getD s 0 0)
+        (cond u (getD s 0 0 % 32 * 64 + getD s 1 0 % 64)
+        (cond v (getD s 0 0 % 16 * 4096 + getD s 1 0 % 64 * 64 + getD s 2 0 % 64)
+        (getD s 0 0 % 8 * 262144 + getD s 1 0 % 64 * 4096 + getD s 2 0 % 64 * 64 + getD s 3 0 % 64)))
+
+    go : (t u v : Bool) → ltb n 2 ≡ t → ltb n 3 ≡ u → ltb n 4 ≡ v → Code t u v (xs ++ ys) ≡ Code t u v xs
+    go true u v p q r = same 0 h
+    go false true v p q r = rw (same 0 h, same 1 (omega (arith, ltb-false n 2 p)))
+    go false false true p q r = rw (same 0 h, same 1 (omega (arith, ltb-false n 3 q)), same 2 (omega (arith, ltb-false n 3 q)))
+    go false false false p q r = let m = ltb-false n 4 r in rw (same 0 h, same 1 (omega arith), same 2 (omega arith), same 3 (omega arith))
+
+dark-append : (x : ℕ) (xs ys : List ℕ) → (charLen (x ∷ xs) ≡ 0 → ⊥) → darkAt (x ∷ (xs ++ ys)) ≡ darkAt (x ∷ xs)
+dark-append x xs ys ne = rw (char-append x xs ys ne) (ap (λ (c : ℕ). not (isWhite c)) (code-append (charLen (x ∷ xs)) (x ∷ xs) ys (omega arith) (char-le (x ∷ xs))))
+
+from-append : (t : Bool) (k p : ℕ) (xs ys : List ℕ) → k ≤ length xs → formedFrom k p xs ≡ Well → deleteFrom t k (xs ++ ys) ≡ deleteFrom t k xs ++ delete ys
+unfolding deleteFrom formedFrom
+from-append t zero p [] ys h e = keep-any t ys
+from-append t (suc k) p [] ys h e = absurd (not-suc-le-zero h)
+from-append t (suc k) p (x ∷ xs) ys h e = ap (onto t x) (from-append t k (suc p) xs ys (le-of-suc-le-suc h) e) ∙ onto-append t x (deleteFrom t k xs) (delete ys)
+from-append t zero p (x ∷ xs) ys h e =
+    let r = well-lead (charLen (x ∷ xs)) p _ e in
+    let d = darkAt (x ∷ xs) in
+    rw (dark-append x xs ys (r .0), char-append x xs ys (r .0)) (ap (onto d x) (from-append d (pred (charLen (x ∷ xs))) (suc p) xs ys (behind-le x xs) (r .1)) ∙ onto-append d x (deleteFrom d (pred (charLen (x ∷ xs))) xs) (delete ys))
+
+pub delete-append : (xs ys : List ℕ) → formed xs ≡ Well → delete (xs ++ ys) ≡ delete xs ++ delete ys
+delete-append xs ys e = from-append true 0 0 xs ys zero-le e
+
+-- ---- blanks
+
+record Vanishes (b : ℕ) : Type 0 where
+  plain : b < 0x80
+  white : isWhite b ≡ true
+
+vanishes : {b : ℕ} → Blank b → Vanishes b
+unfolding isWhite whites mem
+vanishes is-space = record { plain = omega arith; white = refl }
+vanishes is-tab = record { plain = omega arith; white = refl }
+vanishes is-return = record { plain = omega arith; white = refl }
+vanishes is-newline = record { plain = omega arith; white = refl }
+
+delete-blank : (b : ℕ) (bs : List ℕ) → Vanishes b → delete (b ∷ bs) ≡ delete bs
+unfolding deleteFrom code
+delete-blank b bs v = rw (plain-char b bs (v .plain), v .white) (keep-any false bs)
+
+pub blanks-delete : {bs : List ℕ} → Blanks bs → delete bs ≡ []
+unfolding deleteFrom
+blanks-delete no-blank = refl
+blanks-delete (a-blank {b} {bs} h r) = delete-blank b bs (vanishes h) ∙ blanks-delete r
+
+pub blanks-formed : {bs : List ℕ} → Blanks bs → (p : ℕ) → formedFrom 0 p bs ≡ Well
+unfolding formedFrom
+blanks-formed no-blank p = refl
+blanks-formed (a-blank {b} {bs} h r) p = rw (plain-char b bs (vanishes h .plain)) (blanks-formed r (suc p))
+
+pub blanks-append : {xs ys : List ℕ} → Blanks xs → Blanks ys → Blanks (xs ++ ys)
+blanks-append no-blank r = r
+blanks-append (a-blank b q) r = a-blank b (blanks-append q r)
+
+pub blanks-replicate : (n : ℕ) {b : ℕ} → Blank b → Blanks (replicate n b)
+blanks-replicate zero h = no-blank
+blanks-replicate (suc n) h = a-blank h (blanks-replicate n h)
+
+-- ---- trimming
+
+no-cont : {b : ℕ} → Blank b → inRange cont b ≡ false
+no-cont is-space = refl
+no-cont is-tab = refl
+no-cont is-return = refl
+no-cont is-newline = refl
+
+front-formed : (xs : List ℕ) {ys : List ℕ} → Blanks ys → formed (xs ++ ys) ≡ Well → formed xs ≡ Well
+front-formed xs no-blank w = rw append-nil at w
+front-formed xs (a-blank {b} {bs} h r) w = formed-front xs b bs (no-cont h) w
+
+pub trim-formed : (s : List ℕ) → formed s ≡ Well → formed (trim s) ≡ Well
+trim-formed s w = let t = trim-ends s in front-formed (trim s) (t .blanks) (ap formed (sym (t .is)) ∙ w)
+
+pub delete-trim : (s : List ℕ) → formed s ≡ Well → delete (trim s) ≡ delete s
+delete-trim s w =
+    let t = trim-ends s in
+    sym (ap delete (t .is) ∙ delete-append (trim s) (t .rest) (trim-formed s w) ∙ ap (delete (trim s) ++_) (blanks-delete (t .blanks)) ∙ append-nil _)

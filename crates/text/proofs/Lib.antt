@@ -1,0 +1,12 @@
+mod Bools
+mod RangeLaws
+mod SpanLaws
+mod RowLaws
+mod WalkLaws
+mod CharLaws
+mod LineLaws
+mod FormedLaws
+mod DeleteLaws
+pub mod Laws
+pub mod WellFormed
+mod Cases

@@ -1,0 +1,100 @@
+-- A table of range pairs: its test at a number is membership in the list that the pairs spread to. So that a table is right is
+-- one equation between lists, which antt computes. In ascending order, the first range that ends at a number or above it decides.
+-- Assumes nothing.
+use mathlib.Core.Path.{_≡_, refl, sym, ap, ap₂, _∙_}
+use mathlib.Core.Logic.{⊎-elim}
+use mathlib.Core.Bool.{Bool, true, false, _&&_, _||_}
+use mathlib.Core.List.{List, [], _∷_, _++_}
+use Prim.Native.Nat.{ℕ, zero, suc, _+_, _-_, _≤_, _<_}
+use native.Mathlib.Nat.{add-suc, suc-add}
+use native.Mathlib.Omega.{arith}
+use lib.Dec.{leb, ltb, eqb}
+use borrow.Author.Tests.{leb-true, ltb-true, lt-ltb, le-ltb, le-leb, lt-leb, eq-eqb, ne-eqb}
+use Rattle.text.specs.White.{mem}
+use Rattle.text.proofs.Bools.{and-l, and-r, and-true, or-assoc, le-or-lt}
+
+-- n numbers from a on
+abbrev pub upFrom : ℕ → ℕ → List ℕ
+upFrom a zero = []
+upFrom a (suc n) = a ∷ upFrom (suc a) n
+
+abbrev pub spread : List ℕ → List ℕ
+spread [] = []
+spread (lo ∷ []) = []
+spread (lo ∷ hi ∷ r) = upFrom lo (suc hi - lo) ++ spread r
+
+abbrev pub within : List ℕ → ℕ → Bool
+within [] c = false
+within (lo ∷ []) c = false
+within (lo ∷ hi ∷ r) c = (leb lo c && leb c hi) || within r c
+
+-- ---- a pair of ranges is the numbers between them
+
+mem-append : (c : ℕ) (xs ys : List ℕ) → mem c (xs ++ ys) ≡ mem c xs || mem c ys
+unfolding mem
+mem-append c [] ys = refl
+mem-append c (x ∷ xs) ys = ap (λ (t : Bool). eqb c x || t) (mem-append c xs ys) ∙ sym (or-assoc (eqb c x) (mem c xs) (mem c ys))
+
+up : (c a n : ℕ) → mem c (upFrom a n) ≡ leb a c && ltb c (a + n)
+unfolding mem
+up c a zero = ⊎-elim (λ h. rw (le-leb a c h, le-ltb c (a + zero) (omega arith))) (λ h. rw (lt-leb a c h)) (le-or-lt a c)
+up c a (suc n) = ⊎-elim (λ h. ⊎-elim (λ g. at h g) (λ g. above g (up c (suc a) n)) (le-or-lt c a)) (λ h. below h (up c (suc a) n)) (le-or-lt a c)
+  where
+    Rest : Type 0
+    Rest = mem c (upFrom (suc a) n) ≡ leb (suc a) c && ltb c (suc a + n)
+
+    below : c < a → Rest → eqb c a || mem c (upFrom (suc a) n) ≡ leb a c && ltb c (a + suc n)
+    below h e = rw (ne-eqb c a (omega arith), lt-leb a c h) (e ∙ rw (lt-leb (suc a) c (omega arith)))
+
+    at : a ≤ c → c ≤ a → eqb c a || mem c (upFrom (suc a) n) ≡ leb a c && ltb c (a + suc n)
+    at h g = rw (eq-eqb c a (omega arith), le-leb a c h, lt-ltb c (a + suc n) (omega arith))
+
+    above : a < c → Rest → eqb c a || mem c (upFrom (suc a) n) ≡ leb a c && ltb c (a + suc n)
+    above g e = rw (ne-eqb c a (omega arith), le-leb a c (omega arith)) (e ∙ rw (le-leb (suc a) c g, add-suc, suc-add))
+
+pair : (c lo hi : ℕ) → leb lo c && leb c hi ≡ mem c (upFrom lo (suc hi - lo))
+pair c lo hi = ⊎-elim (λ h. ⊎-elim (λ g. inside h g) (λ g. over h g) (le-or-lt c hi)) (λ h. rw (lt-leb lo c h) (sym (up c lo (suc hi - lo) ∙ rw (lt-leb lo c h)))) (le-or-lt lo c)
+  where
+    inside : lo ≤ c → c ≤ hi → leb lo c && leb c hi ≡ mem c (upFrom lo (suc hi - lo))
+    inside h g = rw (le-leb lo c h, le-leb c hi g) (sym (up c lo (suc hi - lo) ∙ rw (le-leb lo c h, lt-ltb c (lo + (suc hi - lo)) (omega arith))))
+
+    over : lo ≤ c → hi < c → leb lo c && leb c hi ≡ mem c (upFrom lo (suc hi - lo))
+    over h g = rw (le-leb lo c h, lt-leb c hi g) (sym (up c lo (suc hi - lo) ∙ rw (le-leb lo c h, le-ltb c (lo + (suc hi - lo)) (omega arith))))
+
+pub within-spread : (c : ℕ) (t : List ℕ) → within t c ≡ mem c (spread t)
+unfolding mem
+within-spread c [] = refl
+within-spread c (lo ∷ []) = refl
+within-spread c (lo ∷ hi ∷ r) = ap₂ _||_ (pair c lo hi) (within-spread c r) ∙ sym (mem-append c (upFrom lo (suc hi - lo)) (spread r))
+
+-- ---- ascending order
+
+-- every range starts above the end of the one before it, the first above b
+abbrev pub ascending : ℕ → List ℕ → Bool
+ascending b [] = true
+ascending b (lo ∷ []) = true
+ascending b (lo ∷ hi ∷ r) = ltb b lo && (leb lo hi && ascending hi r)
+
+above : (b c : ℕ) (t : List ℕ) → ascending b t ≡ true → c ≤ b → within t c ≡ false
+above b c [] e h = refl
+above b c (lo ∷ []) e h = refl
+above b c (lo ∷ hi ∷ r) e h =
+    let l = ltb-true b lo (and-l (ltb b lo) _ e) in
+    let m = and-r (ltb b lo) (leb lo hi && ascending hi r) e in
+    let g = leb-true lo hi (and-l (leb lo hi) (ascending hi r) m) in
+    rw (lt-leb lo c (omega arith)) (above hi c r (and-r (leb lo hi) (ascending hi r) m) (omega arith))
+
+pub first-decides : (b c lo hi : ℕ) (r : List ℕ) → ascending b (lo ∷ hi ∷ r) ≡ true → c ≤ hi → within (lo ∷ hi ∷ r) c ≡ leb lo c
+first-decides b c lo hi r e h =
+    rw (le-leb c hi h, above hi c r (and-r (leb lo hi) (ascending hi r) (and-r (ltb b lo) (leb lo hi && ascending hi r) e)) h, and-true) (go (leb lo c))
+  where
+    go : (t : Bool) → t || false ≡ t
+    go true = refl
+    go false = refl
+
+pub passed : (c lo hi : ℕ) (r : List ℕ) → hi < c → within (lo ∷ hi ∷ r) c ≡ within r c
+passed c lo hi r h = rw (lt-leb c hi h) (go (leb lo c))
+  where
+    go : (t : Bool) → (t && false) || within r c ≡ within r c
+    go true = refl
+    go false = refl

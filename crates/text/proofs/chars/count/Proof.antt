@@ -1,0 +1,62 @@
+-- `text::chars::count` meets its contract: character by character, by the laws of `Counting`. Assumes nothing.
+use Prim.Native.Nat.{_-_}
+use Rattle.text.proofs.CharLaws.{Counting, count-dark, count-end, count-none, count-over, count-white, next-moves, next-within}
+use lib.ListN.{length}
+use mathlib.Core.Path.{_∙_, sym}
+use borrow.Author.Needs.{needs}
+use native.Mathlib.Omega.{arith}
+use Rattle.text.proofs.chars.count.Statement.{statement}
+use Rattle.text.proofs.chars.count.Tie as tie
+
+abbrev Inv-loop : tie.InvT-loop
+Inv-loop t limit most n₀ i₀ n i = Counting t limit n i
+
+abbrev μ-loop : tie.MeasureT-loop
+μ-loop t limit most n₀ i₀ n i = length t - i
+
+add-i : tie.Need-add-i Inv-loop μ-loop
+add-i c = omega (arith, next-within (c .before .before .before .before .before .loop .inv) (c .before .before .before .before .loop-test .taken) (c .before .before .before .char-at .ensures))
+
+loop-less : tie.Need-loop-less Inv-loop μ-loop
+loop-less c = omega (arith, next-within (c .before .before .before .before .before .loop .inv) (c .before .before .before .before .loop-test .taken) (c .before .before .before .char-at .ensures), next-moves (c .before .before .before .before .before .loop .inv) (c .before .before .before .before .loop-test .taken) (c .before .before .before .char-at .ensures))
+
+loop-again : tie.Need-loop-again Inv-loop μ-loop
+loop-again c = count-white (c .before .before .before .before .before .loop .inv) (c .before .before .before .before .loop-test .taken) (c .before .before .before .char-at .ensures) (sym (c .before .if1 .taken) ∙ c .before .before .is-white .ensures)
+
+add-result : tie.Need-add-result Inv-loop μ-loop
+add-result c = omega (arith, c .before .before .before .before .before .loop .inv)
+
+returns : tie.Need-returns Inv-loop μ-loop
+returns c = count-over (c .before .before .before .before .before .loop .inv) (c .before .before .before .before .loop-test .taken) (c .before .before .before .char-at .ensures) (sym (c .before .if1 .left) ∙ c .before .before .is-white .ensures) (c .if2 .taken)
+
+add-n : tie.Need-add-n Inv-loop μ-loop
+add-n c = omega (arith, c .before .before .before .before .before .loop .inv)
+
+add-i-2 : tie.Need-add-i-2 Inv-loop μ-loop
+add-i-2 c = omega (arith, next-within (c .before .before .before .before .before .before .loop .inv) (c .before .before .before .before .before .loop-test .taken) (c .before .before .before .before .char-at .ensures))
+
+loop-less-2 : tie.Need-loop-less-2 Inv-loop μ-loop
+loop-less-2 c = omega (arith, next-within (c .before .before .before .before .before .before .loop .inv) (c .before .before .before .before .before .loop-test .taken) (c .before .before .before .before .char-at .ensures), next-moves (c .before .before .before .before .before .before .loop .inv) (c .before .before .before .before .before .loop-test .taken) (c .before .before .before .before .char-at .ensures))
+
+loop-again-2 : tie.Need-loop-again-2 Inv-loop μ-loop
+loop-again-2 c = count-dark (c .before .before .before .before .before .before .loop .inv) (c .before .before .before .before .before .loop-test .taken) (c .before .before .before .before .char-at .ensures) (sym (c .before .before .if1 .left) ∙ c .before .before .before .is-white .ensures) (c .before .if2 .left)
+
+pub count-spec : {M : Type 1} → statement M
+count-spec =
+    tie.close
+    (tie.spec
+    Inv-loop
+    μ-loop
+    (λ c. count-none _ _)
+    (λ c κs. c .loop-test .taken)
+    (λ c κs. search needs)
+    add-i
+    loop-less
+    loop-again
+    add-result
+    returns
+    add-n
+    add-i-2
+    loop-less-2
+    loop-again-2
+    (λ c. count-end (c .before .loop .inv) (c .loop-test .left)))

@@ -1,0 +1,25 @@
+-- `text::chars::on_boundary` meets its contract. Assumes nothing.
+use Rattle.text.proofs.CharLaws.{high, starts-in, starts-out}
+use borrow.Author.Tests.{le-leb, lt-leb}
+use lib.ListN.{getD}
+use mathlib.Core.Path.{_∙_, sym}
+use borrow.Author.Needs.{needs}
+use native.Mathlib.Omega.{arith}
+use Rattle.text.proofs.chars.on_boundary.Statement.{statement}
+use Rattle.text.proofs.chars.on_boundary.Tie as tie
+
+returns-2 : tie.Need-returns-2
+returns-2 c = sym (starts-in _ _ (omega arith) ∙ rw (lt-leb _ _ (c .if2 .taken)))
+
+returns-3 : tie.Need-returns-3
+returns-3 c = high (getD (c .before .before .before .before .args .s .now) (c .before .before .before .before .args .p .0) 0) ∙ sym (starts-in (c .before .before .before .before .args .p .0) (c .before .before .before .before .args .s .now) (omega arith) ∙ rw (le-leb _ _ (c .if2 .left)))
+
+pub on-boundary-spec : {M : Type 1} → statement M
+on-boundary-spec =
+    tie.close
+    (tie.spec
+    (λ c. search needs)
+    (λ c. starts-out _ _ (c .if1 .taken))
+    (λ c. search needs)
+    returns-2
+    returns-3)

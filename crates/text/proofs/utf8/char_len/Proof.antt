@@ -1,0 +1,28 @@
+-- `text::utf8::char_len` meets its contract. Assumes nothing.
+use Rattle.text.proofs.CharLaws.{high}
+use Rattle.text.proofs.RowLaws.{char-none, char-one}
+use mathlib.Core.Path.{sym}
+use borrow.Author.Needs.{needs}
+use native.Mathlib.Omega.{arith}
+use Rattle.text.proofs.utf8.char_len.Statement.{statement}
+use Rattle.text.proofs.utf8.char_len.Tie as tie
+
+returns-2 : tie.Need-returns-2
+returns-2 c = sym (char-one {s = c .before .before .before .before .args .s .now} {i = c .before .before .before .before .args .i} (search needs))
+
+four-requires : tie.Need-four-requires
+four-requires c κs = record { here = omega arith; low = c .if4 .left; high = omega (arith, c .before .before .before .shared-slice-known2 .given (c .before .before .before .before .before .before .args .i)) }
+
+pub char-len-spec : {M : Type 1} → statement M
+char-len-spec =
+    tie.close
+    (tie.spec
+    (λ c. sym (char-none _ _ (c .if1 .taken)))
+    (λ c. search needs)
+    returns-2
+    (λ c κs. search needs)
+    (λ c. search needs)
+    (λ c κs. search needs)
+    (λ c. search needs)
+    four-requires
+    (λ c. search needs))

@@ -1,0 +1,29 @@
+-- `text::utf8::tail3` meets its contract. Assumes nothing.
+use Rattle.text.proofs.RowLaws.{all-two}
+use Rattle.text.specs.Utf8.{_⋯_, cont}
+use mathlib.Core.Bool.{Bool, cond, false, true}
+use mathlib.Core.Path.{_∙_, ap, refl, sym}
+use borrow.Author.Needs.{needs}
+use Rattle.text.proofs.utf8.tail3.Statement.{statement}
+use Rattle.text.proofs.utf8.tail3.Tie as tie
+
+returns : tie.Need-returns
+returns c = ap (λ (t : Bool). cond t 3 0) (all-two (c .before .before .before .before .before .args .lo ⋯ c .before .before .before .before .before .args .hi) cont (c .before .before .before .before .before .args .s .now) (c .before .before .before .before .before .args .i) true true (sym (c .before .before .if1 .taken) ∙ c .before .before .before .in-range .ensures) (sym (c .if2 .taken) ∙ c .before .in-range2 .ensures))
+
+returns-2 : tie.Need-returns-2
+returns-2 c = ap (λ (t : Bool). cond t 3 0) (all-two (c .before .before .before .before .before .args .lo ⋯ c .before .before .before .before .before .args .hi) cont (c .before .before .before .before .before .args .s .now) (c .before .before .before .before .before .args .i) true false (sym (c .before .before .if1 .taken) ∙ c .before .before .before .in-range .ensures) (sym (c .if2 .left) ∙ c .before .in-range2 .ensures))
+
+returns-3 : tie.Need-returns-3
+returns-3 c = ap (λ (t : Bool). cond t 3 0) (all-two (c .before .before .before .args .lo ⋯ c .before .before .before .args .hi) cont (c .before .before .before .args .s .now) (c .before .before .before .args .i) false _ (sym (c .if1 .left) ∙ c .before .in-range .ensures) refl)
+
+pub tail3-spec : {M : Type 1} → statement M
+tail3-spec =
+    tie.close
+    (tie.spec
+    (λ c. search needs)
+    (λ c κs. search needs)
+    (λ c. search needs)
+    (λ c κs. search needs)
+    returns
+    returns-2
+    returns-3)

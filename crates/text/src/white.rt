@@ -1,0 +1,41 @@
+// White_Space, Unicode's property.
+ghost use mathlib.Core.Path.{_≡_};
+ghost use Rattle.text.specs.White.{isWhite};
+
+// First and last code point of each of the ten ranges, in ascending order.
+const WHITE: [u32; 20] = [
+    0x0009,
+    0x000D,
+    0x0020,
+    0x0020,
+    0x0085,
+    0x0085,
+    0x00A0,
+    0x00A0,
+    0x1680,
+    0x1680,
+    0x2000,
+    0x200A,
+    0x2028,
+    0x2029,
+    0x202F,
+    0x202F,
+    0x205F,
+    0x205F,
+    0x3000,
+    0x3000,
+];
+
+// The code point c has White_Space: the first range that ends at c or above it decides.
+pub fn is_white(c: u32) -> bool
+    ensures { λ r. ⌜ r ≡ isWhite c ⌝ }
+{
+    let mut k: usize = 0;
+    while k < 10 {
+        if c <= WHITE[k * 2 + 1] {
+            return WHITE[k * 2] <= c;
+        }
+        k += 1;
+    }
+    false
+}
