@@ -106,10 +106,10 @@ module _ {t : List ℕ} {limit n i : ℕ} {k : Char} (c : Counting t limit n i) 
   pub count-white : true ≡ isWhite (k .code) → Counting t limit n (i + k .len)
   count-white f = record { within = next-within; below = c .below; whole = ap (n +_) (sym (pass true f)) ∙ c .whole }
 
-  pub count-dark : false ≡ isWhite (k .code) → (n ≡ limit → ⊥) → Counting t limit (n + 1) (i + k .len)
+  pub count-dark : false ≡ isWhite (k .code) → (n + 1 ≡ limit + 1 → ⊥) → Counting t limit (n + 1) (i + k .len)
   count-dark f ne = record { within = next-within; below = omega (arith, c .below); whole = omega (arith, c .whole, pass false f) }
 
-  pub count-over : false ≡ isWhite (k .code) → n ≡ limit → n + 1 ≡ counted limit t
+  pub count-over : false ≡ isWhite (k .code) → n + 1 ≡ limit + 1 → n + 1 ≡ counted limit t
   unfolding counted
   count-over f l = let q : n + 1 ≡ suc limit = omega arith in q ∙ sym (min-eq-left (omega (arith, c .whole, pass false f)))
 

@@ -96,7 +96,7 @@ fn char_at(s: &[u8], i: usize) -> Char
 pub fn count(t: &[u8], limit: u32) -> u64
     ensures { λ r. ⌜ r ≡ counted limit (now (t .entry)) ⌝ }
 {
-    let most = limit as u64;
+    let above = limit as u64 + 1;
     let mut n: u64 = 0;
     let mut i: usize = 0;
     while i < t.len() {
@@ -104,10 +104,10 @@ pub fn count(t: &[u8], limit: u32) -> u64
         if is_white(c.code) {
             i += c.len;
         } else {
-            if n == most {
-                return n + 1;
-            }
             n += 1;
+            if n == above {
+                return n;
+            }
             i += c.len;
         }
     }

@@ -9,10 +9,10 @@ use Rattle.text.proofs.chars.count.Statement.{statement}
 use Rattle.text.proofs.chars.count.Tie as tie
 
 abbrev Inv-loop : tie.InvT-loop
-Inv-loop t limit most n₀ i₀ n i = Counting t limit n i
+Inv-loop t limit above n₀ i₀ n i = Counting t limit n i
 
 abbrev μ-loop : tie.MeasureT-loop
-μ-loop t limit most n₀ i₀ n i = length t - i
+μ-loop t limit above n₀ i₀ n i = length t - i
 
 add-i : tie.Need-add-i Inv-loop μ-loop
 add-i c = omega (arith, next-within (c .before .before .before .before .before .loop .inv) (c .before .before .before .before .loop-test .taken) (c .before .before .before .char-at .ensures))
@@ -23,14 +23,8 @@ loop-less c = omega (arith, next-within (c .before .before .before .before .befo
 loop-again : tie.Need-loop-again Inv-loop μ-loop
 loop-again c = count-white (c .before .before .before .before .before .loop .inv) (c .before .before .before .before .loop-test .taken) (c .before .before .before .char-at .ensures) (sym (c .before .if1 .taken) ∙ c .before .before .is-white .ensures)
 
-add-result : tie.Need-add-result Inv-loop μ-loop
-add-result c = omega (arith, c .before .before .before .before .before .loop .inv)
-
 returns : tie.Need-returns Inv-loop μ-loop
 returns c = count-over (c .before .before .before .before .before .loop .inv) (c .before .before .before .before .loop-test .taken) (c .before .before .before .char-at .ensures) (sym (c .before .if1 .left) ∙ c .before .before .is-white .ensures) (c .if2 .taken)
-
-add-n : tie.Need-add-n Inv-loop μ-loop
-add-n c = omega (arith, c .before .before .before .before .before .loop .inv)
 
 add-i-2 : tie.Need-add-i-2 Inv-loop μ-loop
 add-i-2 c = omega (arith, next-within (c .before .before .before .before .before .before .loop .inv) (c .before .before .before .before .before .loop-test .taken) (c .before .before .before .before .char-at .ensures))
@@ -47,15 +41,15 @@ count-spec =
     (tie.spec
     Inv-loop
     μ-loop
+    (λ c. search needs)
     (λ c. count-none _ _)
     (λ c κs. c .loop-test .taken)
     (λ c κs. search needs)
     add-i
     loop-less
     loop-again
-    add-result
+    (λ c. omega (arith, c .before .before .before .before .loop .inv))
     returns
-    add-n
     add-i-2
     loop-less-2
     loop-again-2
