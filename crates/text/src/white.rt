@@ -32,8 +32,10 @@ pub fn is_white(c: u32) -> bool
 {
     let mut k: usize = 0;
     while k < 10 {
-        if c <= WHITE[k * 2 + 1] {
-            return WHITE[k * 2] <= c;
+        let lo = WHITE[k * 2];
+        let hi = WHITE[k * 2 + 1];
+        if c <= hi {
+            return lo <= c;
         }
         k += 1;
     }
