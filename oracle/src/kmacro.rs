@@ -1,0 +1,51 @@
+//! Stand-in for rune's generated `K!`: the tokens that format.rs names.
+#[rustfmt::skip]
+macro_rules! K {
+    ('(') => { $crate::ast::Kind::Open($crate::ast::Delimiter::Parenthesis) };
+    (')') => { $crate::ast::Kind::Close($crate::ast::Delimiter::Parenthesis) };
+    ('{') => { $crate::ast::Kind::Open($crate::ast::Delimiter::Brace) };
+    ('}') => { $crate::ast::Kind::Close($crate::ast::Delimiter::Brace) };
+    ('[') => { $crate::ast::Kind::Open($crate::ast::Delimiter::Bracket) };
+    (']') => { $crate::ast::Kind::Close($crate::ast::Delimiter::Bracket) };
+    ('label) => { $crate::ast::Kind::Label };
+    (ident) => { $crate::ast::Kind::Ident };
+    (number) => { $crate::ast::Kind::Number };
+    (#) => { $crate::ast::Kind::Pound };
+    (::) => { $crate::ast::Kind::ColonColon };
+    (:) => { $crate::ast::Kind::Colon };
+    (;) => { $crate::ast::Kind::SemiColon };
+    (,) => { $crate::ast::Kind::Comma };
+    (=) => { $crate::ast::Kind::Eq_ };
+    (=>) => { $crate::ast::Kind::Rocket };
+    (-) => { $crate::ast::Kind::Dash };
+    (..) => { $crate::ast::Kind::DotDot };
+    (.) => { $crate::ast::Kind::Dot };
+    (<) => { $crate::ast::Kind::Lt };
+    (>) => { $crate::ast::Kind::Gt };
+    (!) => { $crate::ast::Kind::Bang };
+    (?) => { $crate::ast::Kind::QuestionMark };
+    (||) => { $crate::ast::Kind::PipePipe };
+    (|) => { $crate::ast::Kind::Pipe };
+    (as) => { $crate::ast::Kind::AsKw };
+    (await) => { $crate::ast::Kind::AwaitKw };
+    (break) => { $crate::ast::Kind::BreakKw };
+    (continue) => { $crate::ast::Kind::ContinueKw };
+    (default) => { $crate::ast::Kind::DefaultKw };
+    (else) => { $crate::ast::Kind::ElseKw };
+    (enum) => { $crate::ast::Kind::EnumKw };
+    (fn) => { $crate::ast::Kind::FnKw };
+    (for) => { $crate::ast::Kind::ForKw };
+    (if) => { $crate::ast::Kind::If };
+    (impl) => { $crate::ast::Kind::ImplKw };
+    (in) => { $crate::ast::Kind::InKw };
+    (let) => { $crate::ast::Kind::LetKw };
+    (loop) => { $crate::ast::Kind::LoopKw };
+    (match) => { $crate::ast::Kind::MatchKw };
+    (mod) => { $crate::ast::Kind::ModKw };
+    (return) => { $crate::ast::Kind::ReturnKw };
+    (select) => { $crate::ast::Kind::SelectKw };
+    (struct) => { $crate::ast::Kind::StructKw };
+    (use) => { $crate::ast::Kind::UseKw };
+    (while) => { $crate::ast::Kind::WhileKw };
+    (yield) => { $crate::ast::Kind::YieldKw };
+}

@@ -1,0 +1,39 @@
+//! Recorded cases: files that a program of the port replays with no Rust at hand.
+//! The README gives both formats.
+mod bounds;
+mod calls;
+mod histories;
+mod pieces;
+mod sources;
+mod trees;
+
+pub use calls::record as calls;
+pub use trees::record as trees;
+
+/// How many cases of each sort a file holds, in the order of the file.
+#[derive(Default)]
+struct Sorts(Vec<(&'static str, usize)>);
+
+impl Sorts {
+    fn count(&mut self, sort: &'static str) {
+        match self.0.iter_mut().find(|s| s.0 == sort) {
+            Some(s) => s.1 += 1,
+            None => self.0.push((sort, 1)),
+        }
+    }
+
+    fn show(&self) {
+        for (sort, n) in &self.0 {
+            println!("  {sort:20} {n:5}");
+        }
+    }
+}
+
+fn put_u32(file: &mut Vec<u8>, n: usize) {
+    let n = u32::try_from(n).expect("a number of four bytes");
+    file.extend_from_slice(&n.to_le_bytes());
+}
+
+fn put_u64(file: &mut Vec<u8>, n: u64) {
+    file.extend_from_slice(&n.to_le_bytes());
+}

@@ -1,0 +1,101 @@
+//! Trees by hand: `(kind child ...)` for a composite, `kind"text"` for a leaf, the
+//! kinds by their names in kinds.txt or as two hex digits. The source is the text
+//! of the leaves. In a text: \n \t \r \" \\ \u{..}
+//!
+//! kinds.txt may have a node that is only written whole as a leaf or a composite:
+//! the number decides, so a leaf loses its children and keeps their text.
+use crate::grammar::Rec;
+use crate::kinds::KIND_NAME;
+
+pub fn build(text: &str) -> (String, Vec<Rec>) {
+    let mut reader = Reader {
+        text: text.chars().collect(),
+        at: 0,
+        source: String::new(),
+        records: vec![],
+    };
+    let mut open: Vec<usize> = vec![];
+    while let Some(&c) = reader.text.get(reader.at) {
+        match c {
+            '(' => {
+                reader.at += 1;
+                let kind = reader.kind();
+                open.push(reader.records.len());
+                let start = reader.source.len() as u32;
+                reader.records.push(Rec::new(kind, start, start, 0));
+            }
+            ')' => {
+                reader.at += 1;
+                let first = open.pop().expect("one ) too many");
+                if reader.records[first].is_leaf() {
+                    reader.records.truncate(first + 1);
+                }
+                let last = reader.records.len() - 1;
+                reader.records[first].end = reader.source.len() as u32;
+                reader.records[first].below = (last - first) as u32;
+            }
+            c if c.is_whitespace() => reader.at += 1,
+            _ => reader.leaf(),
+        }
+    }
+    assert!(open.is_empty(), "a ) is missing");
+    (reader.source, reader.records)
+}
+
+struct Reader {
+    text: Vec<char>,
+    at: usize,
+    source: String,
+    records: Vec<Rec>,
+}
+
+impl Reader {
+    fn kind(&mut self) -> u8 {
+        let word = |c: &&char| c.is_alphanumeric() || **c == '_';
+        let name: String = self.text[self.at..].iter().take_while(word).collect();
+        self.at += name.chars().count();
+        match KIND_NAME.iter().position(|n| *n == name) {
+            Some(kind) => kind as u8,
+            None => u8::from_str_radix(&name, 16).unwrap_or_else(|_| panic!("no kind {name}")),
+        }
+    }
+
+    fn leaf(&mut self) {
+        let kind = self.kind();
+        assert_eq!(self.text[self.at], '"', "at {}", self.at);
+        self.at += 1;
+        let start = self.source.len() as u32;
+        while self.text[self.at] != '"' {
+            let c = self.character();
+            self.source.push(c);
+        }
+        self.at += 1;
+        let end = self.source.len() as u32;
+        self.records.push(Rec::new(kind, start, end, 0));
+    }
+
+    fn character(&mut self) -> char {
+        let c = self.next();
+        if c != '\\' {
+            return c;
+        }
+        match self.next() {
+            'n' => '\n',
+            't' => '\t',
+            'r' => '\r',
+            'u' => {
+                assert_eq!(self.next(), '{');
+                let digits = self.text[self.at..].iter().take_while(|c| **c != '}');
+                let digits: String = digits.collect();
+                self.at += digits.len() + 1;
+                char::from_u32(u32::from_str_radix(&digits, 16).unwrap()).unwrap()
+            }
+            other => other,
+        }
+    }
+
+    fn next(&mut self) -> char {
+        self.at += 1;
+        self.text[self.at - 1]
+    }
+}
