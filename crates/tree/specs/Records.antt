@@ -27,6 +27,11 @@ recordOf b bs =
     cond (ltb (length bs) (bodyOf b)) (cutRecord b)
     (record { whole = true; kind = b; span = spanOf (four bs) (four (drop 4 bs)); below = cond (ltb b 0x80) 0 (four (drop 8 bs)) })
 
+-- the record that stands first; behind the end of the list, a cut one of kind 00
+unfoldable pub recordAt : List ℕ → Record
+recordAt [] = cutRecord 0
+recordAt (b ∷ bs) = recordOf b bs
+
 -- all records, a cut last one too; the next k bytes belong to the one before
 unfoldable pub recordsFrom : ℕ → List ℕ → List Record
 recordsFrom k [] = []

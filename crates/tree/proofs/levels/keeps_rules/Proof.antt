@@ -1,0 +1,41 @@
+-- `tree::levels::keeps_rules` meets its contract: each test in turn. Assumes nothing.
+use Rattle.tree.specs.Check.{keeps}
+use borrow.Author.Tests.{le-leb, lt-leb}
+use mathlib.Core.Path.{_∙_, sym}
+use borrow.Author.Needs.{needs}
+use Rattle.tree.proofs.levels.keeps_rules.Statement.{statement}
+use Rattle.tree.proofs.levels.keeps_rules.Tie as tie
+
+returns : tie.Need-returns
+unfolding keeps
+returns c = c .in-source .ensures ∙ sym (rw (c .before .before .before .before .if1 .taken, le-leb _ _ (c .before .before .before .if2 .taken), le-leb _ _ (c .before .before .if3 .taken), le-leb _ _ (c .before .if4 .taken)))
+
+returns-2 : tie.Need-returns-2
+unfolding keeps
+returns-2 c = sym (rw (c .before .before .before .if1 .taken, le-leb _ _ (c .before .before .if2 .taken), le-leb _ _ (c .before .if3 .taken), lt-leb _ _ (c .if4 .left)))
+
+returns-3 : tie.Need-returns-3
+unfolding keeps
+returns-3 c = sym (rw (c .before .before .if1 .taken, le-leb _ _ (c .before .if2 .taken), lt-leb _ _ (c .if3 .left)))
+
+returns-4 : tie.Need-returns-4
+unfolding keeps
+returns-4 c = sym (rw (c .before .if1 .taken, lt-leb _ _ (c .if2 .left)))
+
+returns-5 : tie.Need-returns-5
+unfolding keeps
+returns-5 c = sym (rw (c .if1 .left))
+
+pub keeps-rules-spec : {M : Type 1} → statement M
+keeps-rules-spec =
+    tie.close
+    (tie.spec
+    (λ c. search needs)
+    (λ c. search needs)
+    (λ c. search needs)
+    (λ c κs. search needs)
+    returns
+    returns-2
+    returns-3
+    returns-4
+    returns-5)

@@ -1,0 +1,172 @@
+// The check of a tree: refusals 3 and 7, records in order, level by level.
+use crate::record::Record;
+use crate::record::RecordNo;
+use crate::record::body;
+use crate::record::record_at;
+use text::chars::in_source;
+ghost use mathlib.Core.Path.{_≡_};
+ghost use Prim.Native.Nat.{_≤_, _<_, _+_, _^_};
+ghost use lib.ListN.{length};
+ghost use Rattle.tree.specs.Records.{bodyOf, records};
+ghost use Rattle.tree.specs.Check.{keeps, checked};
+ghost use Rattle.tree.specs.Walk.{nextOf, insideOf, behindOf, Holds, Walk};
+
+// A good tree with so many records, the first record that breaks a rule, or the first that stands too deep.
+pub enum Verdict {
+    Good(RecordNo),
+    Bad(RecordNo),
+    Deep(RecordNo),
+}
+
+// Siblings that are still to be checked, with all below them: the byte and the number of the first, how many records they are, and where
+// the sibling before them ended or the parent starts.
+struct Part {
+    at: usize,
+    first: RecordNo,
+    left: usize,
+    from: usize,
+}
+
+// What the first record of a part is.
+enum Next {
+    Keeps(Record),
+    Bad(RecordNo),
+}
+
+// What a level's walk finds: the byte behind it, or a refusal's record.
+enum Walked {
+    Good(usize),
+    Bad(RecordNo),
+    Deep(RecordNo),
+}
+
+// How many records the list has, a cut last one with it.
+fn count(list: &[u8]) -> usize
+    ensures { λ r. ⌜ r ≡ length (records (now (list .entry))) ⌝ }
+{
+    let mut n: usize = 0;
+    let mut at: usize = 0;
+    while at < list.len() {
+        let size = 1 + body(list[at]);
+        n += 1;
+        at += size;
+    }
+    n
+}
+
+// The record keeps the rules, with n records behind it in its parent's range, between lo and hi.
+fn keeps_rules(src: &[u8], r: Record, lo: usize, hi: usize, n: usize) -> bool
+    ensures { λ k. ⌜ k ≡ keeps (now (src .entry)) lo hi n r ⌝ }
+{
+    let below = r.below as usize;
+    let start = r.span.start.0 as usize;
+    let end = r.span.end.0 as usize;
+    let whole = r.whole;
+    if whole {
+        if below <= n {
+            if lo <= start {
+                if end <= hi {
+                    return in_source(src, r.span);
+                }
+            }
+        }
+    }
+    false
+}
+
+// The first record of a part that has one: too many records, a broken rule, or neither.
+fn look(src: &[u8], list: &[u8], part: Part, hi: usize) -> Next
+    requires { ⌜ 0 < part .left ⌝ }
+    ensures { λ r. ⌜ r ≡ nextOf (now (src .entry)) (now (list .entry)) part hi ⌝ }
+{
+    let first = part.first;
+    if 8192 <= first.0 {
+        return Next::Bad(RecordNo(8192));
+    }
+    let r = record_at(list, part.at);
+    if keeps_rules(src, r, part.from, hi, part.left - 1) {
+        return Next::Keeps(r);
+    }
+    Next::Bad(first)
+}
+
+// The records below the first of a part.
+fn inside(part: Part, r: Record) -> Part
+    requires { ⌜ (part .at + 1 + bodyOf (r .kind) < 2 ^ 64) × (part .first .0 < 8192) ⌝ }
+    ensures { λ p. ⌜ p ≡ insideOf part r ⌝ }
+{
+    Part {
+        at: part.at + 1 + body(r.kind),
+        first: RecordNo(part.first.0 + 1),
+        left: r.below as usize,
+        from: r.span.start.0 as usize,
+    }
+}
+
+// The siblings behind the first of a part, from the byte e on.
+fn behind(part: Part, r: Record, e: usize) -> Part
+    requires { ⌜ (1 + r .below ≤ part .left) × (part .first .0 + 1 + r .below ≤ 8192) ⌝ }
+    ensures { λ p. ⌜ p ≡ behindOf part r e ⌝ }
+{
+    Part {
+        at: e,
+        first: RecordNo(part.first.0 + 1 + r.below),
+        left: part.left - 1 - (r.below as usize),
+        from: r.span.end.0 as usize,
+    }
+}
+
+// Checks the siblings of a part and all below them, in a parent that ends at hi and with d levels left: a level below has one less.
+fn level(src: &[u8], list: &[u8], all: Part, hi: usize, d: u32) -> Walked
+    requires { ⌜ Holds (now list) all ⌝ }
+    ensures { λ r. ⌜ Walk (now (src .entry)) (now (list .entry)) all hi d r ⌝ }
+{
+    let mut part = all;
+    while 0 < part.left {
+        let n = look(src, list, part, hi);
+        match n {
+            Next::Bad(i) => {
+                return Walked::Bad(i);
+            }
+            Next::Keeps(r) => {
+                if d == 0 {
+                    let first = part.first;
+                    return Walked::Deep(first);
+                }
+                let end = r.span.end.0 as usize;
+                let w = level(src, list, inside(part, r), end, d - 1);
+                match w {
+                    Walked::Good(e) => {
+                        part = behind(part, r, e);
+                    }
+                    Walked::Bad(p) => {
+                        return Walked::Bad(p);
+                    }
+                    Walked::Deep(p) => {
+                        return Walked::Deep(p);
+                    }
+                }
+            }
+        }
+    }
+    Walked::Good(part.at)
+}
+
+// The check of a whole list over a source.
+pub fn check(src: &[u8], list: &[u8]) -> Verdict
+    ensures { λ r. ⌜ r ≡ checked (now (src .entry)) (now (list .entry)) ⌝ }
+{
+    let n = count(list);
+    let all = Part {
+        at: 0,
+        first: RecordNo(0),
+        left: n,
+        from: 0,
+    };
+    let w = level(src, list, all, src.len(), 64);
+    match w {
+        Walked::Good(_) => Verdict::Good(RecordNo(n as u32)),
+        Walked::Bad(p) => Verdict::Bad(p),
+        Walked::Deep(p) => Verdict::Deep(p),
+    }
+}
