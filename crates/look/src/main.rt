@@ -88,10 +88,10 @@ fn main() {
         return;
     }
     let mut script = [0u8; 65600];
-    let mut list = [0u8; 1048576];
+    let mut list = [0u8; 131072];
     let s = read(1, &mut script);
     let t = read(2, &mut list);
-    if 1048576 <= t.len {
+    if 131072 <= t.len {
         say(b"the tree is longer than this program reads\n");
         return;
     }
