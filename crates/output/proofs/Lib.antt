@@ -16,3 +16,20 @@ pub mod Opens
 pub mod Lent
 pub mod Counts
 pub mod Leaves
+mod WriteLaws
+mod TabLaws
+mod RingLaws
+mod StepLaws
+mod PassLaws
+mod ReleaseLaws
+mod GatherLaws
+mod CallLaws
+mod NodeLaws
+pub mod Chain
+mod GapLaws
+mod SlotLaws
+mod LentLaws
+mod DecodeLaws
+mod ServeLaws
+pub mod Unique
+pub mod RunLaws

@@ -21,7 +21,7 @@ use Rattle.tree.specs.Records.{records}
 use Rattle.tree.specs.Check.{startOf, endOf, Finding, fine, bad, deep, _then_, keeps, along, level, verdictAs, checked}
 use Rattle.tree.specs.Opening.{ofSource, opened}
 use Rattle.output.specs.declared.answer.Answer.the-variants.{Done}
-use Rattle.output.specs.Opening.{scriptOf, answerTo, opening}
+use Rattle.output.specs.Opening.{scriptIn, answerTo, opening}
 use Rattle.output.specs.World as World
 use Rattle.output.specs.History.{Event, after, went}
 use Rattle.output.specs.Demand3.{SpansInside, Opens, Demand3}
@@ -80,11 +80,11 @@ tree-inside src list n e = go (level src 64 0 0 0 (length src) (records list)) r
     go (bad i) l e = let z : _≡_ {A = ℕ} 0 1 = cc in absurd (omega arith)
     go (deep i) l e = let z : _≡_ {A = ℕ} 0 1 = cc in absurd (omega arith)
 
-pub opening-opens : (src list : List ℕ) → opening src list ≡ Done → Opens (scriptOf src list)
+pub opening-opens : (src list : List ℕ) → opening src list ≡ Done → Opens (scriptIn src list)
 unfolding opened
 opening-opens src list e = go (source-check.checked src) (checked src list) refl refl e
   where
-    go : (c : Checked) (v : Verdict) → source-check.checked src ≡ c → checked src list ≡ v → answerTo (ofSource c v) ≡ Done → Opens (scriptOf src list)
+    go : (c : Checked) (v : Verdict) → source-check.checked src ≡ c → checked src list ≡ v → answerTo (ofSource c v) ≡ Done → Opens (scriptIn src list)
     go source.Good (tree.Good n) p q e = record { source-good = p; spans-inside = tree-inside src list n q }
     go source.Good (tree.Bad i) p q e = let z : _≡_ {A = ℕ} 0 1 = cc in absurd (omega arith)
     go source.Good (tree.Deep i) p q e = let z : _≡_ {A = ℕ} 0 1 = cc in absurd (omega arith)
@@ -93,5 +93,5 @@ opening-opens src list e = go (source-check.checked src) (checked src list) refl
 
 -- demand 3 of bytes that opening lets in
 pub demand3-opened : (src list : List ℕ) → opening src list ≡ Done → (buf : List ℕ) (es : List Event)
-    → Demand3 (scriptOf src list) (went Done (scriptOf src list) (World.opened buf) es) (after Done (scriptOf src list) (World.opened buf) es)
-demand3-opened src list e buf es = demand3 Done (scriptOf src list) (opening-opens src list e) buf es
+    → Demand3 (scriptIn src list) (went Done (scriptIn src list) (World.opened buf) es) (after Done (scriptIn src list) (World.opened buf) es)
+demand3-opened src list e buf es = demand3 Done (scriptIn src list) (opening-opens src list e) buf es

@@ -39,13 +39,6 @@ module _ (x : Script) where
   unfolding exec
   exec-refuse a w = refl
 
-  -- the same for contracts, in code order
-  pub _▹_ : {p q : Plan} {r r₁ r₂ : Result} → Ran x p r r₁ → Ran x q r₁ r₂ → Ran x (p then q) r r₂
-  unfolding exec
-  _▹_ {p} {q} {r} {r₁} {r₂} a b = record { ran = b .ran ∙ ap (exec x q) (a .ran) }
-
-  infixl 30 _▹_
-
 -- ---- what holds of every run that goes
 
 module _ (x : Script) (P : List Call → World → Type 0) where

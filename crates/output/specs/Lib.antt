@@ -16,3 +16,10 @@ pub mod History
 pub mod Demand3
 pub mod AtLeast
 pub mod Cases
+pub mod View
+pub mod Run
+pub mod Wording
+pub mod Passes
+pub mod Parts
+pub mod Served
+pub mod Ended

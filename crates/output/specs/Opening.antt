@@ -10,8 +10,8 @@ use Rattle.output.specs.declared.answer.Answer.{Answer}
 use Rattle.output.specs.declared.answer.Answer.the-variants.{Done, Refused}
 use Rattle.output.specs.State.{Script}
 
-abbrev pub scriptOf : List ℕ → List ℕ → Script
-scriptOf src list = record { source = src; tree = records list }
+abbrev pub scriptIn : List ℕ → List ℕ → Script
+scriptIn src list = record { source = src; tree = records list }
 
 -- 1, 2, 3, 7
 abbrev pub answerTo : Opening → Answer

@@ -15,9 +15,9 @@ use Rattle.tree.specs.Records.{four, bodyOf, spanOf, cutRecord, recordOf
 
 -- ---- numbers and records at a byte
 
-pub four-at : (i : ℕ) (s : List ℕ) → four (drop i s) ≡ getD s i 0 + getD s (i + 1) 0 * 0x100 + getD s (i + 2) 0 * 0x10000 + getD s (i + 3) 0 * 0x1000000
+pub four-is : (s : List ℕ) (i : ℕ) {a b c d : ℕ} → a ≡ getD s i 0 → b ≡ getD s (i + 1) 0 → c ≡ getD s (i + 2) 0 → d ≡ getD s (i + 3) 0 → a + b * 0x100 + c * 0x10000 + d * 0x1000000 ≡ four (drop i s)
 unfolding four
-four-at i s = simp (getD-drop, add-zero)
+four-is s i e f g h = simp (getD-drop, add-zero) (rw (e, f, g, h))
 
 pub body-small : (k : ℕ) → k < 0x80 → bodyOf k ≡ 8
 unfolding bodyOf

@@ -1,6 +1,4 @@
 // Recorded trees, good and damaged: what opening answers is held against what the oracle recorded. oracle/README.md has the file's form.
-mod packed;
-
 use tree::open::Opening;
 
 // How many cases agreed, of each answer, and how many did not.

@@ -1,0 +1,19 @@
+-- `output::calls::comments` meets its contract. Assumes nothing.
+use Rattle.output.proofs.CallLaws.{by-comments, ran-ready}
+use mathlib.Core.Path.{refl}
+use borrow.Author.Needs.{needs}
+use Rattle.output.proofs.calls.comments.Statement.{statement}
+use Rattle.output.proofs.calls.comments.Tie as tie
+
+returns : tie.Need-returns
+returns c = ran-ready (c .before .before .before .before .before .before .before .before .before .before .args .run) (c .before .before .before .before .ready .ensures) refl (by-comments (c .before .before .before .way-of .ensures) (c .before .before .release .ensures))
+
+pub comments-spec : {M : Type 1} → statement M
+comments-spec =
+    tie.close
+    (tie.spec
+    (λ c κs. search needs)
+    (λ c κs. search needs)
+    (λ c κs. search needs)
+    (λ c. search needs)
+    returns)

@@ -1,0 +1,19 @@
+-- `output::calls::flush_whitespace` meets its contract. Assumes nothing.
+use Rattle.output.proofs.CallLaws.{flush-is, ran-ready}
+use mathlib.Core.Path.{refl}
+use borrow.Author.Needs.{needs}
+use Rattle.output.proofs.calls.flush_whitespace.Statement.{statement}
+use Rattle.output.proofs.calls.flush_whitespace.Tie as tie
+
+returns : tie.Need-returns
+returns c = ran-ready (c .before .before .before .before .before .before .before .before .before .args .run) (c .before .before .before .before .ready .ensures) refl (flush-is (c .before .before .before .before .before .before .before .before .before .args .queue .now) refl (c .before .before .put .ensures))
+
+pub flush-whitespace-spec : {M : Type 1} → statement M
+flush-whitespace-spec =
+    tie.close
+    (tie.spec
+    (λ c κs. search needs)
+    (λ c. search needs)
+    (λ c κs. search needs)
+    (λ c. search needs)
+    returns)

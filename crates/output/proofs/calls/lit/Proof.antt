@@ -1,0 +1,20 @@
+-- `output::calls::lit` meets its contract. Assumes nothing.
+use Rattle.output.proofs.CallLaws.{lit-is, ran-ready}
+use mathlib.Core.Path.{refl}
+use borrow.Author.Needs.{needs}
+use Rattle.output.proofs.calls.lit.Statement.{statement}
+use Rattle.output.proofs.calls.lit.Tie as tie
+
+returns : tie.Need-returns
+returns c = ran-ready (c .before .before .before .before .before .before .before .before .before .before .args .run) (c .before .before .before .before .before .ready .ensures) refl (lit-is (c .before .before .before .before .before .before .before .before .before .before .args .queue .now) (c .before .before .before .text .ensures) (c .before .before .put .ensures))
+
+pub lit-spec : {M : Type 1} → statement M
+lit-spec =
+    tie.close
+    (tie.spec
+    (λ c κs. search needs)
+    (λ c. search needs)
+    (λ c κs. search needs)
+    (λ c κs. search needs)
+    (λ c. search needs)
+    returns)

@@ -1,0 +1,26 @@
+-- `output::run::Run::ready` meets its contract. Assumes nothing.
+use Rattle.output.proofs.GapLaws.{ready-finished, ready-open, ready-stopped}
+use Rattle.output.proofs.StepLaws.{goes}
+use mathlib.Core.Path.{_∙_, sym}
+use borrow.Author.Needs.{needs}
+use Rattle.output.proofs.run.Run.ready.Statement.{statement}
+use Rattle.output.proofs.run.Run.ready.Tie as tie
+
+returns : tie.Need-returns
+returns c = ready-stopped _ (sym (c .before .stopped .ensures) ∙ c .if1 .taken)
+
+returns-2 : tie.Need-returns-2
+returns-2 c = c .refused .ensures ∙ ready-finished _ (goes (c .before .before .before .stopped .ensures) (c .before .before .if1 .left)) (c .before .if2 .taken)
+
+returns-3 : tie.Need-returns-3
+returns-3 c = ready-open _ (goes (c .before .before .stopped .ensures) (c .before .if1 .left)) (c .if2 .left)
+
+pub ready-spec : {M : Type 1} → statement M
+ready-spec =
+    tie.close
+    (tie.spec
+    (λ c κs. search needs)
+    returns
+    (λ c κs. search needs)
+    returns-2
+    returns-3)

@@ -1,0 +1,15 @@
+-- `output::state::fresh` meets its contract. Assumes nothing.
+use Rattle.output.specs.View.{slotsOf, wordsOf}
+use mathlib.Core.Path.{refl}
+use Rattle.output.proofs.state.fresh.Statement.{statement}
+use Rattle.output.proofs.state.fresh.Tie as tie
+
+returns : tie.Need-returns
+unfolding slotsOf wordsOf
+returns c = refl
+
+pub fresh-spec : {M : Type 1} → statement M
+fresh-spec =
+    tie.close
+    (tie.spec
+    returns)

@@ -1,0 +1,18 @@
+-- `plans::statement` meets its contract: its calls, in the order of the code. Assumes nothing.
+use Rattle.output.proofs.Chain.{_▹_}
+use borrow.Author.Needs.{needs}
+use Rattle.plans.proofs.statement.Statement.{statement}
+use Rattle.plans.proofs.statement.Tie as tie
+
+returns : tie.Need-returns
+returns c = c .before .before .before .before .before .before .before .before .before .before .before .before .write-owned .ensures ▹ c .before .before .before .before .before .before .before .lit .ensures ▹ c .before .before .nl .ensures
+
+pub statement-spec : {M : Type 1} → statement M
+statement-spec =
+    tie.close
+    (tie.spec
+    (λ c κs. search needs)
+    (λ c κs. search needs)
+    (λ c κs. search needs)
+    (λ c. search needs)
+    returns)
