@@ -10,7 +10,7 @@ use lib.Dec.{leb, ltb, eqb}
 use lib.ListN.{length, take, drop, getD, length-drop, drop-of-length-le}
 use lib.Seq.{drop-cons}
 use borrow.Author.Tests.{eqb-true, lt-ltb, le-ltb}
-use Rattle.text.specs.Utf8.{Range, Row, _⋯_, cont, inRange, table, allIn, lenBy, charLen}
+use Rattle.text.specs.Utf8.{Range, Row, _⋯_, cont, inRange, table, allIn, lenBy, second, charLen}
 use Rattle.text.specs.Walk.{ByteIn}
 use Rattle.text.proofs.Bools.{and-l, and-r, and-true, below, below-at}
 
@@ -98,13 +98,10 @@ by-lead (row ∷ rows) b bs = go (inRange (row .lead) b) (by-lead rows b bs)
 
 -- the same by tests on the byte, in the order in which the code makes them
 abbrev pub tail3 : ℕ → Tail
-tail3 b = cond (eqb b 0xE0) (tail (0xA0 ⋯ 0xBF ∷ cont ∷ [])) (cond (eqb b 0xED) (tail (0x80 ⋯ 0x9F ∷ cont ∷ [])) (tail (cont ∷ cont ∷ [])))
+tail3 b = tail (second b ∷ cont ∷ [])
 
 abbrev pub tail4 : ℕ → Tail
-tail4 b =
-    cond (eqb b 0xF0) (tail (0x90 ⋯ 0xBF ∷ cont ∷ cont ∷ []))
-    (cond (eqb b 0xF4) (tail (0x80 ⋯ 0x8F ∷ cont ∷ cont ∷ []))
-    (cond (ltb b 0xF4) (tail (cont ∷ cont ∷ cont ∷ [])) no-row))
+tail4 b = cond (ltb 0xF4 b) no-row (tail (second b ∷ cont ∷ cont ∷ []))
 
 abbrev pub tailBy : ℕ → Tail
 tailBy b = cond (ltb b 0x80) (tail []) (cond (ltb b 0xE0) (cond (ltb b 0xC2) no-row (tail (cont ∷ []))) (cond (ltb b 0xF0) (tail3 b) (tail4 b)))

@@ -87,6 +87,10 @@ unfoldable pub charLen : List ℕ → ℕ
 charLen [] = 0
 charLen (b ∷ bs) = lenBy table b bs
 
+-- the second byte, by a first byte of E0 to F4: behind four of them not every byte may stand that goes on a sequence
+abbrev pub second : ℕ → Range
+second b = cond (eqb b 0xE0) 0xA0 (cond (eqb b 0xF0) 0x90 0x80) ⋯ cond (eqb b 0xED) 0x9F (cond (eqb b 0xF4) 0x8F 0xBF)
+
 -- at place p begins a sequence of n bytes, or an ill-formed one where n is 0
 abbrev pub atLead : ℕ → ℕ → Formed → Formed
 atLead zero p rest = Ill p

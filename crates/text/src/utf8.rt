@@ -4,7 +4,7 @@ ghost use mathlib.Core.Bool.{cond};
 ghost use mathlib.Core.List.{_∷_, []};
 ghost use Prim.Native.Nat.{_≤_, _<_, _+_};
 ghost use lib.ListN.{length, drop};
-ghost use Rattle.text.specs.Utf8.{_⋯_, cont, allIn, charLen, formed, allPlain};
+ghost use Rattle.text.specs.Utf8.{_⋯_, cont, second, allIn, charLen, formed, allPlain};
 ghost use Rattle.text.specs.Walk.{ByteIn, Past, PlainTo, wideTo};
 
 // Well-formed, or the first byte of the first ill-formed sequence.
@@ -30,6 +30,33 @@ fn in_range(s: &[u8], i: usize, lo: u8, hi: u8) -> bool
         }
     }
     false
+}
+
+// The lowest byte that may stand behind b, a first byte of E0 to F4. One value for all of them keeps `char_len` short enough to stand in
+// the loops that call it.
+fn lowest(b: u8) -> u8
+    ensures { λ r. ⌜ r ≡ second b .lo ⌝ }
+{
+    if b == 0xE0 {
+        return 0xA0;
+    }
+    if b == 0xF0 {
+        return 0x90;
+    }
+    0x80
+}
+
+// The highest.
+fn highest(b: u8) -> u8
+    ensures { λ r. ⌜ r ≡ second b .hi ⌝ }
+{
+    if b == 0xED {
+        return 0x9F;
+    }
+    if b == 0xF4 {
+        return 0x8F;
+    }
+    0xBF
 }
 
 // 3 where the byte behind i is one of lo to hi and the next one goes on, else 0.
@@ -77,13 +104,7 @@ fn three(s: &[u8], i: usize) -> usize
     ensures { λ r. ⌜ r ≡ charLen (drop i (now (s .entry))) ⌝ }
 {
     let b = s[i];
-    if b == 0xE0 {
-        return tail3(s, i, 0xA0, 0xBF);
-    }
-    if b == 0xED {
-        return tail3(s, i, 0x80, 0x9F);
-    }
-    tail3(s, i, 0x80, 0xBF)
+    tail3(s, i, lowest(b), highest(b))
 }
 
 // The sequence at i, whose first byte is F0 or above.
@@ -92,16 +113,10 @@ fn four(s: &[u8], i: usize) -> usize
     ensures { λ r. ⌜ r ≡ charLen (drop i (now (s .entry))) ⌝ }
 {
     let b = s[i];
-    if b == 0xF0 {
-        return tail4(s, i, 0x90, 0xBF);
+    if 0xF4 < b {
+        return 0;
     }
-    if b == 0xF4 {
-        return tail4(s, i, 0x80, 0x8F);
-    }
-    if b < 0xF4 {
-        return tail4(s, i, 0x80, 0xBF);
-    }
-    0
+    tail4(s, i, lowest(b), highest(b))
 }
 
 // How long the well-formed sequence at i is: 0 where there is none.

@@ -110,6 +110,13 @@ count-next s at h =
     let e : at + 1 + bodyOf (getD s at 0) ≡ at + (1 + bodyOf (getD s at 0)) = omega arith in
     rw (records-cons s at h, e) (omega arith)
 
+-- a leaf takes nine bytes, a composite thirteen
+pub leaf-next : (s : List ℕ) (at : ℕ) → at < length s → getD s at 0 < 0x80 → length (records (drop at s)) ≡ 1 + length (records (drop (at + 9) s))
+leaf-next s at h k = rw (body-small (getD s at 0) k) at (count-next s at h)
+
+pub node-next : (s : List ℕ) (at : ℕ) → at < length s → 0x80 ≤ getD s at 0 → length (records (drop at s)) ≡ 1 + length (records (drop (at + 13) s))
+node-next s at h k = rw (body-big (getD s at 0) k) at (count-next s at h)
+
 -- the same by a record that was read there, and the bytes behind its kind
 module _ (s : List ℕ) (at bd : ℕ) (r : Record) (h : at < length s) (read : r ≡ recordAt (drop at s)) (body : bd ≡ bodyOf (r .kind)) where
   size : bd ≡ bodyOf (getD s at 0)

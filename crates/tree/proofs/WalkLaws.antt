@@ -147,6 +147,10 @@ module _ {src list : List ℕ} {all : Part} {hi d : ℕ} {p : Part} {r : Record}
     small = omega (arith, m .few);
   })
 
+  -- where nothing lies below it, there is nothing to go into
+  pub none-below : {q : Part} → q ≡ insideOf p r → q .left ≡ 0 → Walk src list q (endOf r) (d - 1) (walked.Good (q .at))
+  none-below e z = done (begin (inside-holds e)) (omega arith)
+
   pub inside-asks : length list < 2 ^ 64 → (p .at + 1 + bodyOf (r .kind) < 2 ^ 64) × (p .first .0 < 8192)
   inside-asks h = (omega (arith, inside-holds refl .within), m .few)
 

@@ -1,18 +1,25 @@
 -- How the check's code walks a level, for the functions that make it up. Assumes nothing.
 use mathlib.Core.Path.{_≡_}
-use Prim.Native.Nat.{ℕ, _+_, _-_, _≤_}
+use Prim.Native.Nat.{ℕ, _+_, _-_, _≤_, _<_}
 use mathlib.Core.Bool.{cond}
 use mathlib.Core.List.{List}
-use lib.ListN.{length, take, drop}
+use lib.ListN.{length, take, drop, getD}
 use lib.Dec.{leb}
 use Rattle.tree.specs.declared.record.Record.{Record}
 use Rattle.tree.specs.declared.levels.Part.{Part}
+use Rattle.tree.specs.declared.levels.Leaves.{Leaves}
 use Rattle.tree.specs.declared.levels.Next.{Next}
 use Rattle.tree.specs.declared.levels.Next.the-variants as next
 use Rattle.tree.specs.declared.levels.Walked.{Walked}
 use Rattle.tree.specs.declared.levels.Walked.the-variants as walked
 use Rattle.tree.specs.Records.{bodyOf, recordAt, records}
 use Rattle.tree.specs.Check.{startOf, endOf, Finding, fine, bad, deep, keeps, level}
+
+-- from byte i to byte r .at stand r .n leaves and nothing else, up to the list's end or a composite
+pub record PastLeaves (list : List ℕ) (i : ℕ) (r : Leaves) : Type 0 where
+  pub forth : i ≤ r .at
+  pub counted : r .n + length (records (drop (r .at) list)) ≡ length (records (drop i list))
+  pub stops : r .at < length list → 0x80 ≤ getD list (r .at) 0
 
 -- the record that stands first in a part
 abbrev pub headOf : List ℕ → Part → Record

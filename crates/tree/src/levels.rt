@@ -9,7 +9,7 @@ ghost use Prim.Native.Nat.{_≤_, _<_, _+_, _^_};
 ghost use lib.ListN.{length};
 ghost use Rattle.tree.specs.Records.{bodyOf, records};
 ghost use Rattle.tree.specs.Check.{keeps, checked};
-ghost use Rattle.tree.specs.Walk.{nextOf, insideOf, behindOf, Holds, Walk};
+ghost use Rattle.tree.specs.Walk.{PastLeaves, nextOf, insideOf, behindOf, Holds, Walk};
 
 // A good tree with so many records, the first record that breaks a rule, or the first that stands too deep.
 pub enum Verdict {
@@ -33,11 +33,33 @@ enum Next {
     Bad(RecordNo),
 }
 
+// So many leaves, and the byte behind them.
+struct Leaves {
+    n: usize,
+    at: usize,
+}
+
 // What a level's walk finds: the byte behind it, or a refusal's record.
 enum Walked {
     Good(usize),
     Bad(RecordNo),
     Deep(RecordNo),
+}
+
+// Past the leaves that stand side by side from a byte on, a cut last one with them: a step of nine bytes each, whatever the last one was.
+fn past_leaves(list: &[u8], from: usize) -> Leaves
+    ensures { λ r. ⌜ PastLeaves (now (list .entry)) from r ⌝ }
+{
+    let mut n: usize = 0;
+    let mut at = from;
+    while at < list.len() {
+        if 0x80 <= list[at] {
+            return Leaves { n, at };
+        }
+        n += 1;
+        at += 9;
+    }
+    Leaves { n, at }
 }
 
 // How many records the list has, a cut last one with it.
@@ -47,9 +69,13 @@ fn count(list: &[u8]) -> usize
     let mut n: usize = 0;
     let mut at: usize = 0;
     while at < list.len() {
-        let size = 1 + body(list[at]);
-        n += 1;
-        at += size;
+        let to = past_leaves(list, at);
+        n += to.n;
+        at = to.at;
+        if at < list.len() {
+            n += 1;
+            at += 13;
+        }
     }
     n
 }
@@ -133,17 +159,22 @@ fn level(src: &[u8], list: &[u8], all: Part, hi: usize, d: u32) -> Walked
                     let first = part.first;
                     return Walked::Deep(first);
                 }
-                let end = r.span.end.0 as usize;
-                let w = level(src, list, inside(part, r), end, d - 1);
-                match w {
-                    Walked::Good(e) => {
-                        part = behind(part, r, e);
-                    }
-                    Walked::Bad(p) => {
-                        return Walked::Bad(p);
-                    }
-                    Walked::Deep(p) => {
-                        return Walked::Deep(p);
+                let below = inside(part, r);
+                if below.left == 0 {
+                    part = behind(part, r, below.at);
+                } else {
+                    let end = r.span.end.0 as usize;
+                    let w = level(src, list, below, end, d - 1);
+                    match w {
+                        Walked::Good(e) => {
+                            part = behind(part, r, e);
+                        }
+                        Walked::Bad(p) => {
+                            return Walked::Bad(p);
+                        }
+                        Walked::Deep(p) => {
+                            return Walked::Deep(p);
+                        }
                     }
                 }
             }

@@ -1,11 +1,12 @@
--- `text::white::is_white` meets its contract: the loop passes pairs of the table, the first pair that ends at the code point or above it
--- decides, and the whole table spreads to the 25 code points, which antt computes. Assumes nothing.
+-- `text::white::is_white` meets its contract: above the last pair there is none; the loop passes pairs of the table, the first pair that ends
+-- at the code point or above it decides, and the whole table spreads to the 25 code points, which antt computes. Assumes nothing.
 -- the table's rule, once
 -- the pair at k, and those behind it
-use Prim.Native.Nat.{_*_, _+_, _-_, _<_, _≤_, suc, ℕ}
+use Prim.Native.Nat.{_*_, _+_, _-_, _<_, _≤_, zero, suc, ℕ}
 use Rattle.text.proofs.Bools.{below-at}
 use Rattle.text.proofs.RangeLaws.{ascending, first-decides, passed, within, within-spread}
 use Rattle.text.specs.White.{isWhite, whites}
+use borrow.Author.Tests.{leb-true}
 use lib.Dec.{leb}
 use lib.ListN.{drop, getD}
 use lib.Seq.{drop-cons}
@@ -42,6 +43,14 @@ decides c k h l = ap (λ (t : List ℕ). within t c) (at-pair k h) ∙ first-dec
 passes : (c k : ℕ) → k < 10 → getD pairs (k * 2 + 1) 0 < c → within (drop (k * 2) pairs) c ≡ within (drop ((k + 1) * 2) pairs) c
 passes c k h l = ap (λ (t : List ℕ). within t c) (at-pair k h) ∙ passed c (getD pairs (k * 2) 0) (getD pairs (k * 2 + 1) 0) (drop ((k + 1) * 2) pairs) l
 
+-- every pair ends at the last one's end or below it, so a code point above that passes them all
+all-pass : (c : ℕ) → 0x3000 < c → (n : ℕ) → n ≤ 10 → within (drop (n * 2) pairs) c ≡ isWhite c
+all-pass c h zero l = rule c
+all-pass c h (suc n) l =
+    let low = leb-true (getD pairs (n * 2 + 1) 0) 0x3000 (below-at 10 (λ k. leb (getD pairs (k * 2 + 1) 0) 0x3000) refl n (omega arith)) in
+    let e : suc n * 2 ≡ (n + 1) * 2 = omega arith in
+    rw e (sym (passes c n (omega arith) (omega arith)) ∙ all-pass c h n (omega arith))
+
 abbrev Inv-loop : tie.InvT-loop
 Inv-loop c k₀ k = (k ≤ 10) × (within (drop (k * 2) pairs) c ≡ isWhite c)
 
@@ -49,13 +58,16 @@ abbrev μ-loop : tie.MeasureT-loop
 μ-loop c k₀ k = 10 - k
 
 returns : tie.Need-returns Inv-loop μ-loop
-returns c = sym (decides (c .before .before .before .args .c) (c .before .before .loop .k) (c .before .loop-test .taken) (c .if1 .taken)) ∙ c .before .before .loop .inv .1
-
-loop-again : tie.Need-loop-again Inv-loop μ-loop
-loop-again c = (omega arith, sym (passes (c .before .before .before .args .c) (c .before .before .loop .k) (c .before .loop-test .taken) (c .if1 .left)) ∙ c .before .before .loop .inv .1)
+returns c = all-pass (c .before .args .c) (c .if1 .taken) 10 (omega arith)
 
 returns-2 : tie.Need-returns-2 Inv-loop μ-loop
-returns-2 c = ap (λ (k : ℕ). within (drop (k * 2) pairs) (c .before .before .args .c)) {x = 10} {y = c .before .loop .k} (omega arith) ∙ c .before .loop .inv .1
+returns-2 c = sym (decides (c .before .before .before .before .args .c) (c .before .before .loop .k) (c .before .loop-test .taken) (c .if2 .taken)) ∙ c .before .before .loop .inv .1
+
+loop-again : tie.Need-loop-again Inv-loop μ-loop
+loop-again c = (omega arith, sym (passes (c .before .before .before .before .args .c) (c .before .before .loop .k) (c .before .loop-test .taken) (c .if2 .left)) ∙ c .before .before .loop .inv .1)
+
+returns-3 : tie.Need-returns-3 Inv-loop μ-loop
+returns-3 c = ap (λ (k : ℕ). within (drop (k * 2) pairs) (c .before .before .before .args .c)) {x = 10} {y = c .before .loop .k} (omega arith) ∙ c .before .loop .inv .1
 
 pub is-white-spec : {M : Type 1} → statement M
 is-white-spec =
@@ -63,16 +75,18 @@ is-white-spec =
     (tie.spec
     Inv-loop
     μ-loop
-    (λ c. (omega arith, rule (c .args .c)))
-    (λ c. omega arith)
-    (λ c. omega arith)
-    (λ c. omega arith)
-    (λ c. omega arith)
-    (λ c. omega arith)
-    (λ c. omega arith)
     (λ c. omega arith)
     returns
+    (λ c. (omega arith, rule (c .before .args .c)))
+    (λ c. omega arith)
+    (λ c. omega arith)
+    (λ c. omega arith)
+    (λ c. omega arith)
+    (λ c. omega arith)
+    (λ c. omega arith)
+    (λ c. omega arith)
+    returns-2
     (λ c. search needs)
     (λ c. search needs)
     loop-again
-    returns-2)
+    returns-3)

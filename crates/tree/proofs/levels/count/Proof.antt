@@ -1,8 +1,8 @@
 -- `tree::levels::count` meets its contract. The invariant: what is counted and what is still to count make up the whole. Assumes nothing.
 use Prim.Native.Nat.{_+_, _-_}
-use Rattle.tree.proofs.RecordLaws.{body-le, count-next, records-few, records-none}
+use Rattle.tree.proofs.RecordLaws.{node-next, records-few, records-none}
 use Rattle.tree.specs.Records.{records}
-use lib.ListN.{drop, getD, length}
+use lib.ListN.{drop, length}
 use mathlib.Core.Path.{_≡_, ap}
 use borrow.Author.Needs.{needs}
 use native.Mathlib.Omega.{arith}
@@ -15,20 +15,20 @@ Inv-loop list n₀ at₀ n at = n + length (records (drop at list)) ≡ length (
 abbrev μ-loop : tie.MeasureT-loop
 μ-loop list n₀ at₀ n at = length list - at
 
-add-size : tie.Need-add-size Inv-loop μ-loop
-add-size c = omega (arith, body-le (getD (c .before .before .before .before .before .args .list .now) (c .before .before .before .loop .at) 0))
-
 add-n : tie.Need-add-n Inv-loop μ-loop
-add-n c = omega (arith, records-few 0 (c .before .before .before .before .before .args .list .now))
+add-n c = omega (arith, c .before .before .before .loop .inv, c .before .past-leaves .ensures .counted, records-few 0 (c .before .before .before .before .before .args .list .now))
 
-add-at : tie.Need-add-at Inv-loop μ-loop
-add-at c = omega (arith, body-le (getD (c .before .before .before .before .before .args .list .now) (c .before .before .before .loop .at) 0))
+add-n-2 : tie.Need-add-n-2 Inv-loop μ-loop
+add-n-2 c = omega (arith, c .before .before .before .before .loop .inv, c .before .before .past-leaves .ensures .counted, records-few 0 (c .before .before .before .before .before .before .args .list .now))
 
 loop-less : tie.Need-loop-less Inv-loop μ-loop
-loop-less c = omega (arith, body-le (getD (c .before .before .before .before .before .args .list .now) (c .before .before .before .loop .at) 0))
+loop-less c = omega (arith, c .before .before .past-leaves .ensures .forth)
 
 loop-again : tie.Need-loop-again Inv-loop μ-loop
-loop-again c = rw (c .body .ensures) (omega (arith, count-next (c .before .before .before .before .before .args .list .now) (c .before .before .before .loop .at) (omega arith)))
+loop-again c = omega (arith, c .before .before .before .before .loop .inv, c .before .before .past-leaves .ensures .counted, node-next (c .before .before .before .before .before .before .args .list .now) (c .before .before .past-leaves .result .at) (c .if1 .taken) (c .before .before .past-leaves .ensures .stops (c .if1 .taken)))
+
+loop-again-2 : tie.Need-loop-again-2 Inv-loop μ-loop
+loop-again-2 c = omega (arith, c .before .before .before .before .loop .inv, c .before .before .past-leaves .ensures .counted)
 
 returns : tie.Need-returns Inv-loop μ-loop
 returns c = omega (arith, ap length (records-none (c .before .before .before .args .list .now) (c .before .loop .at) (omega arith)))
@@ -40,11 +40,12 @@ count-spec =
     Inv-loop
     μ-loop
     (λ c. omega arith)
-    (λ c. search needs)
     (λ c κs. search needs)
-    add-size
     add-n
-    add-at
+    add-n-2
+    (λ c. omega arith)
     loop-less
     loop-again
+    (λ c. omega arith)
+    loop-again-2
     returns)
