@@ -1,9 +1,9 @@
 // Document 01's small sessions P4 to P10 through the public functions: each answer, the output, and how many comments wait.
 use libc::STDOUT_FILENO;
-use output::answer::Answer;
-use output::answer::Refusal;
-use output::call::Call;
-use output::call::Hint;
+use meaning::answer::Answer;
+use meaning::answer::Refusal;
+use meaning::call::Call;
+use meaning::call::Hint;
 use output::engine;
 use output::state::State;
 use output::state::fresh;

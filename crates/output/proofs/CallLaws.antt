@@ -12,33 +12,33 @@ use Rattle.text.specs.Span.{textOf}
 use Rattle.tree.specs.declared.record.RecordNo.{RecordNo}
 use Rattle.tree.specs.Table.{treeOf, nodeOf}
 use Rattle.tree.specs.Cursor as cursor
+use Rattle.meaning.specs.declared.call.Hint.{Hint}
+use Rattle.meaning.specs.declared.call.Hint.the-variants.{Line, Prefix, Suffix, Infix}
+use Rattle.meaning.specs.declared.call.Literal.{Literal}
+use Rattle.meaning.specs.declared.call.Literal.the-variants.{Braces, Bars, Parens, OpenBrace, CloseBrace, Comma, Semicolon, Colon}
+use Rattle.meaning.specs.declared.call.Call.{Call}
+use Rattle.meaning.specs.declared.call.Call.the-variants.{WriteOwned, WriteRaw, Ignore, Lit, Comments, Indent, Nl, Ws, FlushWhitespace, FlushPrefixComments, Finish}
+use Rattle.meaning.specs.declared.answer.Refusal.{Refusal}
+use Rattle.meaning.specs.declared.answer.Refusal.the-variants.{NoRoom, IndentOut}
+use Rattle.meaning.specs.declared.answer.Answer.{Answer}
+use Rattle.meaning.specs.declared.answer.Answer.the-variants.{Done, Refused}
+use Rattle.meaning.specs.State.{Script, Comment, State, withLen, withLines, withUseLines, withWs, closed}
+use Rattle.meaning.specs.Pieces.{Piece, gap, text, flat, Emit, emit}
+use Rattle.meaning.specs.Outcome.{Outcome, done, refused, refuseIf}
+use Rattle.meaning.specs.Collect.{Collected, full, got, onGot, orElse, collect, collected, entriesFrom, gather, nodeText, behind}
+use Rattle.meaning.specs.Flush.{flush, flushed, flushGap}
+use Rattle.meaning.specs.Release.{lineRelease}
+use Rattle.meaning.specs.Calls.{litText, signed, act, settle, writeNode, no-node, a-node, namedBy}
+use Rattle.meaning.specs.World.{World, world, capacity, Result, result, made}
+use Rattle.meaning.specs.Plan.{make, Ran}
 use Rattle.output.specs.declared.run.Run.{Run}
 use Rattle.output.specs.declared.room.Gap.{Gap}
-use Rattle.output.specs.declared.call.Hint.{Hint}
-use Rattle.output.specs.declared.call.Hint.the-variants.{Line, Prefix, Suffix, Infix}
-use Rattle.output.specs.declared.call.Literal.{Literal}
-use Rattle.output.specs.declared.call.Literal.the-variants.{Braces, Bars, Parens, OpenBrace, CloseBrace, Comma, Semicolon, Colon}
-use Rattle.output.specs.declared.call.Call.{Call}
-use Rattle.output.specs.declared.call.Call.the-variants.{WriteOwned, WriteRaw, Ignore, Lit, Comments, Indent, Nl, Ws, FlushWhitespace, FlushPrefixComments, Finish}
 use Rattle.output.specs.declared.release.Way.{Way}
 use Rattle.output.specs.declared.release.Way.the-variants.{Lines, Spaces}
-use Rattle.output.specs.declared.answer.Refusal.{Refusal}
-use Rattle.output.specs.declared.answer.Refusal.the-variants.{NoRoom, IndentOut}
-use Rattle.output.specs.declared.answer.Answer.{Answer}
-use Rattle.output.specs.declared.answer.Answer.the-variants.{Done, Refused}
-use Rattle.output.specs.State.{Script, Comment, State, withLen, withLines, withUseLines, withWs, closed}
-use Rattle.output.specs.Pieces.{Piece, gap, text, flat, Emit, emit}
-use Rattle.output.specs.Outcome.{Outcome, done, refused, refuseIf}
-use Rattle.output.specs.Collect.{Collected, full, got, onGot, orElse, collect, collected, entriesFrom, gather, nodeText, behind}
-use Rattle.output.specs.Flush.{flush, flushed, flushGap}
-use Rattle.output.specs.Release.{lineRelease}
-use Rattle.output.specs.Calls.{litText, signed, act, settle, writeNode, no-node, a-node, namedBy}
-use Rattle.output.specs.World.{World, world, capacity, Result, result, made}
 use Rattle.output.specs.Run.{isRefused, answered, movedRun, hintedRun, indentedRun, closedRun, flushedRun, readyRun, presentRun}
 use Rattle.output.specs.Passes.{releaseOf, wayOf}
 use Rattle.output.specs.Wording.{litSpan}
 use Rattle.output.specs.View.{queueOf, view, resultOf, scriptOf, gapBytes}
-use Rattle.output.specs.Plan.{make, Ran}
 use Rattle.output.specs.Parts.{steps, settles, Released, PutText, onAnswer, Gathered, Beside, WroteNode}
 use Rattle.output.proofs.WriteLaws.{laid-length}
 use Rattle.output.proofs.StepLaws.{ready-steps, present-call, open-steps, stopped-steps, thenState, then-stopped, then-open, settle-then}

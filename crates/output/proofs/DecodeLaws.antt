@@ -9,9 +9,9 @@ use lib.Dec.{eqb}
 use borrow.Author.Tests.{eq-eqb, ne-eqb}
 use Rattle.tree.specs.declared.record.RecordNo.{RecordNo}
 use Rattle.tree.specs.Records.{four}
-use Rattle.output.specs.declared.call.Call.{Call}
-use Rattle.output.specs.declared.call.Call.the-variants.{WriteOwned, WriteRaw, Ignore}
-use Rattle.output.specs.CallRecord.{Body, a-number, listed, a-byte, nothing, bodies, at, readBody, readAs, ofKind, decode}
+use Rattle.meaning.specs.declared.call.Call.{Call}
+use Rattle.meaning.specs.declared.call.Call.the-variants.{WriteOwned, WriteRaw, Ignore}
+use Rattle.meaning.specs.CallRecord.{Body, a-number, listed, a-byte, nothing, bodies, at, readBody, readAs, ofKind, decode}
 use Rattle.output.specs.Served.{numbered}
 
 pub at-none : (cs : List Call) (n : ℕ) → length cs ≤ n → none ≡ at cs n

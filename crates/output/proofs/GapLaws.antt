@@ -9,15 +9,15 @@ use lib.Dec.{eqb, leb, ltb}
 use borrow.Author.Tests.{eq-eqb, ne-eqb, le-leb, lt-leb}
 use Rattle.tree.specs.declared.record.Record.{Record}
 use Rattle.tree.specs.declared.record.RecordNo.{RecordNo}
+use Rattle.meaning.specs.declared.answer.Refusal.the-variants.{Finished, NoNode}
+use Rattle.meaning.specs.declared.answer.Answer.{Answer}
+use Rattle.meaning.specs.declared.answer.Answer.the-variants.{Done, Refused}
+use Rattle.meaning.specs.Pieces.{space, breaks}
+use Rattle.meaning.specs.Collect.{orElse}
+use Rattle.meaning.specs.Release.{lineGap, spaceGap}
 use Rattle.output.specs.declared.run.Run.{Run}
 use Rattle.output.specs.declared.release.Way.{Way}
 use Rattle.output.specs.declared.release.Way.the-variants.{Lines, Spaces}
-use Rattle.output.specs.declared.answer.Refusal.the-variants.{Finished, NoNode}
-use Rattle.output.specs.declared.answer.Answer.{Answer}
-use Rattle.output.specs.declared.answer.Answer.the-variants.{Done, Refused}
-use Rattle.output.specs.Pieces.{space, breaks}
-use Rattle.output.specs.Collect.{orElse}
-use Rattle.output.specs.Release.{lineGap, spaceGap}
 use Rattle.output.specs.Run.{isRefused, answered, readyAnswer, readyRun, presentAnswer, presentRun}
 use Rattle.output.specs.Passes.{gapOf, backOf}
 

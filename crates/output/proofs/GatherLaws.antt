@@ -16,13 +16,13 @@ use Rattle.text.specs.declared.span.Span.{Span}
 use Rattle.tree.specs.declared.record.Record.{Record}
 use Rattle.tree.specs.Records.{cutRecord}
 use Rattle.tree.specs.Table.{nodeOf}
+use Rattle.meaning.specs.declared.answer.Refusal.the-variants.{QueueFull}
+use Rattle.meaning.specs.declared.answer.Answer.the-variants.{Done, Refused}
+use Rattle.meaning.specs.State.{Script, Note, Comment, queued, State, withQueue, withLines}
+use Rattle.meaning.specs.Outcome.{Outcome, refused}
+use Rattle.meaning.specs.Collect.{Entry, inner, remark, blank, stop, entryAt, entryOf, entriesFrom, Collected, full, got, before, orElse, collect, onGot, collected, gather}
 use Rattle.output.specs.declared.run.Run.{Run}
 use Rattle.output.specs.declared.collect.Entry as entry
-use Rattle.output.specs.declared.answer.Refusal.the-variants.{QueueFull}
-use Rattle.output.specs.declared.answer.Answer.the-variants.{Done, Refused}
-use Rattle.output.specs.State.{Script, Note, Comment, queued, State, withQueue, withLines}
-use Rattle.output.specs.Outcome.{Outcome, refused}
-use Rattle.output.specs.Collect.{Entry, inner, remark, blank, stop, entryAt, entryOf, entriesFrom, Collected, full, got, before, orElse, collect, onGot, collected, gather}
 use Rattle.output.specs.Run.{answered, collectedRun}
 use Rattle.output.specs.View.{tab, ringAt, queueOf, view, asEntry}
 use Rattle.output.specs.Parts.{Gathered, onAnswer}

@@ -9,19 +9,19 @@ use lib.ListN.{length}
 use lib.Dec.{ltb}
 use borrow.Author.Tests.{lt-ltb, le-ltb}
 use Rattle.text.specs.Chars.{inSource}
+use Rattle.meaning.specs.declared.call.Call.{Call}
+use Rattle.meaning.specs.declared.answer.Refusal.{Refusal}
+use Rattle.meaning.specs.declared.answer.Refusal.the-variants.{NoRoom, QueueFull, IndentOut, BadCall}
+use Rattle.meaning.specs.declared.answer.Answer.{Answer}
+use Rattle.meaning.specs.declared.answer.Answer.the-variants.{Done, Refused}
+use Rattle.meaning.specs.State.{Script, Comment, State}
+use Rattle.meaning.specs.Outcome.{Outcome, done, refused, refuseIf}
+use Rattle.meaning.specs.Calls.{step}
+use Rattle.meaning.specs.CallRecord.{decode, asked}
+use Rattle.meaning.specs.Lent.{anyOutside, lentState, lent, serve, serveRecord}
+use Rattle.meaning.specs.World.{World, world, capacity, Result, result, made, call, callRecord}
+use Rattle.meaning.specs.Plan.{make, refuse, goOn, exec}
 use Rattle.output.specs.declared.run.Run.{Run}
-use Rattle.output.specs.declared.call.Call.{Call}
-use Rattle.output.specs.declared.answer.Refusal.{Refusal}
-use Rattle.output.specs.declared.answer.Refusal.the-variants.{NoRoom, QueueFull, IndentOut, BadCall}
-use Rattle.output.specs.declared.answer.Answer.{Answer}
-use Rattle.output.specs.declared.answer.Answer.the-variants.{Done, Refused}
-use Rattle.output.specs.State.{Script, Comment, State}
-use Rattle.output.specs.Outcome.{Outcome, done, refused, refuseIf}
-use Rattle.output.specs.Calls.{step}
-use Rattle.output.specs.CallRecord.{decode, asked}
-use Rattle.output.specs.Lent.{anyOutside, lentState, lent, serve, serveRecord}
-use Rattle.output.specs.World.{World, world, capacity, Result, result, made, call, callRecord}
-use Rattle.output.specs.Plan.{make, refuse, goOn, exec}
 use Rattle.output.specs.Run.{isRefused, answered}
 use Rattle.output.specs.View.{ringAt, queueOf, view, resultOf}
 use Rattle.output.specs.Served.{checkedAnswer, lentAnswer, lentRun, askedPlan}

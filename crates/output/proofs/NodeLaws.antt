@@ -12,21 +12,21 @@ use Rattle.tree.specs.declared.record.Record.{Record}
 use Rattle.tree.specs.declared.record.RecordNo.{RecordNo}
 use Rattle.tree.specs.Table.{nodeOf}
 use Rattle.tree.specs.Cursor as cursor
+use Rattle.meaning.specs.declared.call.Call.the-variants.{WriteOwned, WriteRaw, FlushPrefixComments}
+use Rattle.meaning.specs.declared.answer.Refusal.the-variants.{NoRoom}
+use Rattle.meaning.specs.declared.answer.Answer.{Answer}
+use Rattle.meaning.specs.declared.answer.Answer.the-variants.{Done, Refused}
+use Rattle.meaning.specs.State.{Script, Comment, State, withLen, withUseLines}
+use Rattle.meaning.specs.Pieces.{Piece, gap, text, flat, Emit, emit}
+use Rattle.meaning.specs.Outcome.{Outcome, done, refused, refuseIf}
+use Rattle.meaning.specs.Collect.{gather, nodeText, behind}
+use Rattle.meaning.specs.Flush.{flushGap}
+use Rattle.meaning.specs.Release.{lineRelease}
+use Rattle.meaning.specs.Calls.{act, writeNode}
+use Rattle.meaning.specs.World.{World, world, Result, result, made}
 use Rattle.output.specs.declared.run.Run.{Run}
 use Rattle.output.specs.declared.room.Gap.{Gap}
-use Rattle.output.specs.declared.call.Call.the-variants.{WriteOwned, WriteRaw, FlushPrefixComments}
 use Rattle.output.specs.declared.release.Way.the-variants.{Lines}
-use Rattle.output.specs.declared.answer.Refusal.the-variants.{NoRoom}
-use Rattle.output.specs.declared.answer.Answer.{Answer}
-use Rattle.output.specs.declared.answer.Answer.the-variants.{Done, Refused}
-use Rattle.output.specs.State.{Script, Comment, State, withLen, withUseLines}
-use Rattle.output.specs.Pieces.{Piece, gap, text, flat, Emit, emit}
-use Rattle.output.specs.Outcome.{Outcome, done, refused, refuseIf}
-use Rattle.output.specs.Collect.{gather, nodeText, behind}
-use Rattle.output.specs.Flush.{flushGap}
-use Rattle.output.specs.Release.{lineRelease}
-use Rattle.output.specs.Calls.{act, writeNode}
-use Rattle.output.specs.World.{World, world, Result, result, made}
 use Rattle.output.specs.Run.{isRefused, answered, movedRun, hintedRun, flushedRun}
 use Rattle.output.specs.View.{queueOf, view, resultOf, gapBytes}
 use Rattle.output.specs.Parts.{steps, settles, Released, onAnswer, Gathered, Beside, WroteNode}
@@ -60,7 +60,7 @@ module _ (x : Script) (k : RecordNo) (g : Gap) (next run : Run) (q b : List ℕ)
   unfolding pieces refuseIf
   node-past h e = record { out = λ a s. rw e (sym (node-is s ∙ rw h)); long = refl }
 
-  module _ (m r : Run) (q′ : List ℕ) (i : ℕ) (em : m ≡ movedRun next (run .len + (g .lines + g .spaces) + length t)) (ei : i ≡ cursor.behind (x .tree) (k .0)) (c : Gathered x i m q r q′) (fits : ltb (length b) (run .len + (g .lines + g .spaces) + length t) ≡ false) where
+  module _ (m r : Run) (q′ : List ℕ) (i : ℕ) (em : m ≡ movedRun (answered next Done) (run .len + (g .lines + g .spaces) + length t)) (ei : i ≡ cursor.behind (x .tree) (k .0)) (c : Gathered x i m q r q′) (fits : ltb (length b) (run .len + (g .lines + g .spaces) + length t) ≡ false) where
     node-goes : run .answer ≡ Done → Beside run next → made (world (view run q) b) (writeNode x (length b) k (view run q) (emit (view next q) pieces)) ≡ made (world (view run q) b) (onAnswer (r .answer) (done (view r q′) pieces))
     unfolding refuseIf
     node-goes a s =
@@ -68,7 +68,7 @@ module _ (x : Script) (k : RecordNo) (g : Gap) (next run : Run) (q b : List ℕ)
         ∙ rw fits (ap (made (world (view run q) b))
         (ap (λ (z : Run). gather x (cursor.behind (x .tree) (k .0)) (view z q) (λ s′. done s′ pieces)) (sym em)
         ∙ ap (λ (j : ℕ). gather x j (view m q) (λ s′. done s′ pieces)) (sym ei)
-        ∙ c .out (ap (λ (z : Run). z .answer) em ∙ s .answer ∙ a) (λ s′. done s′ pieces)))
+        ∙ c .out (ap (λ (z : Run). z .answer) em) (λ s′. done s′ pieces)))
 
     pub node-full : {o : Run} → isRefused (r .answer) ≡ true → o ≡ answered run (r .answer) → WroteNode x k g next run q b o q′ b
     unfolding pieces

@@ -9,12 +9,12 @@ use lib.ListN.{length, length-append}
 use lib.Seq.{sets, length-sets}
 use lib.Dec.{ltb, eqb}
 use borrow.Author.Tests.{lt-ltb, le-ltb, ltb-true, ltb-false}
+use Rattle.meaning.specs.State.{Comment}
+use Rattle.meaning.specs.Release.{takeUntil}
 use Rattle.output.specs.declared.release.Way.{Way}
 use Rattle.output.specs.declared.release.Fit.{Fit}
 use Rattle.output.specs.declared.release.Fit.the-variants.{Past, Goes}
 use Rattle.output.specs.declared.room.Gap.{Gap}
-use Rattle.output.specs.State.{Comment}
-use Rattle.output.specs.Release.{takeUntil}
 use Rattle.output.specs.View.{gapBytes}
 use Rattle.output.specs.Passes.{stopOf, frontOf, gapOf, lettersOf, bytesOn, bytesFrom, going, reach, fitOf, Measured}
 use Rattle.output.proofs.WriteLaws.{laid-length, sets-append}

@@ -9,23 +9,24 @@ use lib.ListN.{length, length-append, take, drop}
 use lib.Seq.{sets}
 use lib.Dec.{ltb, eqb, eqb·suc-zero}
 use borrow.Author.Tests.{lt-ltb, le-ltb, ltb-true, ltb-false}
+use Rattle.meaning.specs.declared.answer.Refusal.the-variants.{NoRoom}
+use Rattle.meaning.specs.declared.answer.Answer.{Answer}
+use Rattle.meaning.specs.declared.answer.Answer.the-variants.{Done, Refused}
+use Rattle.meaning.specs.State.{Comment, State, withQueue, withLen}
+use Rattle.meaning.specs.Pieces.{Piece, gap, comment, bytesOf, flat, Emit, emit}
+use Rattle.meaning.specs.Outcome.{done, refused, refuseIf}
+use Rattle.meaning.specs.Release.{takeUntil, dropUntil, isNil, isEmpty, commentText, stopLine, stopSpace, lineGap, trimmed, linePieces, spaceGap, spacePieces, behindGap}
+use Rattle.meaning.specs.World.{world, result, made}
+use Rattle.meaning.proofs.Laws.{flat-append}
 use Rattle.output.specs.declared.run.Run.{Run}
 use Rattle.output.specs.declared.room.Gap.{Gap}
 use Rattle.output.specs.declared.release.Way.{Way}
 use Rattle.output.specs.declared.release.Way.the-variants.{Lines, Spaces}
 use Rattle.output.specs.declared.release.Fit.the-variants.{Past, Goes}
-use Rattle.output.specs.declared.answer.Refusal.the-variants.{NoRoom}
-use Rattle.output.specs.declared.answer.Answer.the-variants.{Done, Refused}
-use Rattle.output.specs.State.{Comment, State, withQueue, withLen}
-use Rattle.output.specs.Pieces.{Piece, gap, comment, bytesOf, flat, Emit, emit}
-use Rattle.output.specs.Outcome.{done, refused, refuseIf}
-use Rattle.output.specs.Release.{takeUntil, dropUntil, isNil, isEmpty, commentText, stopLine, stopSpace, lineGap, trimmed, linePieces, spaceGap, spacePieces, behindGap}
-use Rattle.output.specs.World.{world, result, made}
 use Rattle.output.specs.Run.{answered, letOutRun}
-use Rattle.output.specs.View.{ringAt, queueOf, view, resultOf, gapBytes}
+use Rattle.output.specs.View.{tab, ringAt, queueOf, view, resultOf, gapBytes}
 use Rattle.output.specs.Passes.{releaseOf, stopOf, frontOf, backOf, bytesOn, bytesFrom, going, reach, written, fitOf, Measured}
 use Rattle.output.specs.Parts.{Released, settles, steps}
-use Rattle.output.proofs.Laws.{flat-append}
 use Rattle.output.proofs.WriteLaws.{sets-append, gap-length}
 use Rattle.output.proofs.TabLaws.{length-tab, drop-tab, take-tab}
 use Rattle.output.proofs.RingLaws.{head-mod}
@@ -205,3 +206,31 @@ module _ (src : List ℕ) (w : Way) (q : List ℕ) (run : Run) (b : List ℕ) (o
       where
         both : (b b1 x y z : List ℕ) (at to : ℕ) → b1 ≡ sets b at x → to ≡ at + length x → z ≡ y → sets b1 to z ≡ sets b at (x ++ y)
         both b b1 x y z at to e1 e2 e3 = cc (sets-append b x y at)
+
+-- ---- nothing waits
+
+module _ (src : List ℕ) (w : Way) (s : State) (b : List ℕ) (none : s .queue ≡ []) (inside : s .len ≤ length b) where
+  none-written : written src w s ≡ []
+  unfolding going bytesFrom
+  none-written = rw none (by-way w)
+    where
+      by-way : (w : Way) → bytesFrom src w (s .indent) (frontOf w) (s .len) [] ++ backOf w 0 ≡ []
+      by-way (Lines same) = refl
+      by-way (Spaces front back) = refl
+
+  idle : made (world s b) (settles (length b) s (releaseOf src w s) (λ s′. s′)) ≡ result Done (world s b)
+  idle =
+      let z : s .len + length (written src w s) ≡ s .len = omega (arith, ap length none-written) in
+      moved src w s b (le-ltb (length b) (s .len + length (written src w s)) (omega arith)) ∙ same-done s _ (s .len) _ (s .queue) _ b z (ap (dropUntil (stopOf w)) none ∙ sym none) (ap (sets b (s .len)) none-written)
+
+-- a release changes nothing then, refused already or not
+pub release-idle : (src : List ℕ) (w : Way) (q : List ℕ) (run : Run) (b : List ℕ) → run .count ≡ 0 → run .len ≤ length b → Released src w q run b run b
+unfolding steps tab
+release-idle src w q run b h l = record { out = go (run .answer) }
+  where
+    none : queueOf q (run .head) (run .count) ≡ []
+    none = rw h
+
+    go : (a : Answer) → result a (world (view run q) b) ≡ steps (λ cap s. settles cap s (releaseOf src w s) (λ s′. s′)) (result a (world (view run q) b))
+    go Done = sym (idle src w (view run q) b none l)
+    go (Refused e) = refl

@@ -8,7 +8,7 @@ use lib.ListN.{length, set, getD, length-set}
 use lib.Seq.{getD-set-same, getD-set-other}
 use lib.Dec.{eqb}
 use Rattle.tree.specs.Records.{spanOf}
-use Rattle.output.specs.State.{Comment}
+use Rattle.meaning.specs.State.{Comment}
 use Rattle.output.specs.View.{tab, slotOf, flagOf, commentFrom, ringAt, queueOf, stored}
 use Rattle.output.proofs.TabLaws.{tab-snoc, tab-same, tab-next}
 

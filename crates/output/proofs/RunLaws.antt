@@ -13,29 +13,29 @@ use mathlib.Core.List.{append-nil}
 use Rattle.tree.specs.declared.record.RecordNo.{RecordNo}
 use Rattle.tree.specs.Opening.{opened}
 use Rattle.tree.specs.Table.{Decoded}
-use Rattle.output.specs.declared.answer.Refusal.{Refusal}
+use Rattle.meaning.specs.declared.answer.Refusal.{Refusal}
+use Rattle.meaning.specs.declared.call.Call.{Call}
+use Rattle.meaning.specs.declared.answer.Refusal.the-variants.{NoRoom, QueueFull, IndentOut, Finished}
+use Rattle.meaning.specs.declared.answer.Answer.{Answer}
+use Rattle.meaning.specs.declared.answer.Answer.the-variants.{Done, Refused}
+use Rattle.meaning.specs.State.{Script, State}
+use Rattle.meaning.specs.Pieces.{Piece, flat}
+use Rattle.meaning.specs.Outcome.{Outcome, done, refused, refuseIf}
+use Rattle.meaning.specs.Calls.{step}
+use Rattle.meaning.specs.World.{World, world, capacity, Result, result, made}
+use Rattle.meaning.specs.Plan.{Plan, nothing, make, refuse, _then_, exec, zeroed, putBack, answerOf, ready, run, Ran}
+use Rattle.meaning.specs.Lent.{anyOutside, lentState}
+use Rattle.meaning.specs.Opening.{answerTo, scriptIn}
+use Rattle.meaning.proofs.Step.{fair}
+use Rattle.meaning.proofs.Chain.{keeps}
 use Rattle.output.specs.declared.run.Run.{Run}
 use Rattle.output.specs.declared.state.State as code
 use Rattle.output.specs.declared.state.Step.{Step}
-use Rattle.output.specs.declared.call.Call.{Call}
-use Rattle.output.specs.declared.answer.Refusal.the-variants.{NoRoom, QueueFull, IndentOut, Finished}
-use Rattle.output.specs.declared.answer.Answer.{Answer}
-use Rattle.output.specs.declared.answer.Answer.the-variants.{Done, Refused}
-use Rattle.output.specs.State.{Script, State}
-use Rattle.output.specs.Pieces.{Piece, flat}
-use Rattle.output.specs.Outcome.{Outcome, done, refused, refuseIf}
-use Rattle.output.specs.Calls.{step}
-use Rattle.output.specs.World.{World, world, capacity, Result, result, made}
-use Rattle.output.specs.Plan.{Plan, nothing, make, refuse, _then_, exec, zeroed, putBack, answerOf, ready, run, Ran}
-use Rattle.output.specs.Lent.{anyOutside, lentState}
 use Rattle.output.specs.Run.{readyAnswer, readyRun}
 use Rattle.output.specs.View.{ringAt, queueOf, view, resultOf, scriptOf}
-use Rattle.output.specs.Opening.{answerTo, scriptIn}
 use Rattle.output.specs.Served.{startedRun, stateOf, leftOf, checkedAnswer, lentAnswer, lentRun, Served}
 use Rattle.output.specs.Ended.{endedBuffer, Ended, runLeft}
-use Rattle.output.proofs.Step.{fair}
 use Rattle.output.proofs.TabLaws.{length-tab}
-use Rattle.output.proofs.Chain.{keeps}
 use Rattle.output.proofs.ServeLaws.{either-script, lent-refused}
 
 -- ---- bytes below the output's length stay

@@ -13,24 +13,24 @@ use Rattle.tree.specs.Records.{records}
 use Rattle.tree.specs.Opening.{opened}
 use Rattle.tree.specs.Table.{treeOf, Decoded}
 use Rattle.tree.proofs.Laws.{open-good, table-whole}
+use Rattle.meaning.specs.declared.call.Call.{Call}
+use Rattle.meaning.specs.declared.answer.Refusal.{Refusal}
+use Rattle.meaning.specs.declared.answer.Refusal.the-variants.{BadCall}
+use Rattle.meaning.specs.declared.answer.Answer.{Answer}
+use Rattle.meaning.specs.declared.answer.Answer.the-variants.{Done, Refused}
+use Rattle.meaning.specs.State.{Script, State}
+use Rattle.meaning.specs.CallRecord.{decode}
+use Rattle.meaning.specs.World.{World, world, Result, result, call, callRecord}
+use Rattle.meaning.specs.Plan.{Plan, make, refuse, exec, Ran}
+use Rattle.meaning.specs.Opening.{answerTo, scriptIn}
+use Rattle.meaning.proofs.Plans.{sticky}
 use Rattle.output.specs.declared.run.Run.{Run}
 use Rattle.output.specs.declared.state.State as code
 use Rattle.output.specs.declared.state.Step.{Step}
-use Rattle.output.specs.declared.call.Call.{Call}
 use Rattle.output.specs.declared.decode.Decoded as read
-use Rattle.output.specs.declared.answer.Refusal.{Refusal}
-use Rattle.output.specs.declared.answer.Refusal.the-variants.{BadCall}
-use Rattle.output.specs.declared.answer.Answer.{Answer}
-use Rattle.output.specs.declared.answer.Answer.the-variants.{Done, Refused}
-use Rattle.output.specs.State.{Script, State}
-use Rattle.output.specs.CallRecord.{decode}
-use Rattle.output.specs.World.{World, world, Result, result, call, callRecord}
-use Rattle.output.specs.Plan.{Plan, make, refuse, exec, Ran}
 use Rattle.output.specs.Run.{answered, isRefused}
 use Rattle.output.specs.View.{ringAt, queueOf, slotsOf, view, resultOf, scriptOf}
-use Rattle.output.specs.Opening.{answerTo, scriptIn}
 use Rattle.output.specs.Served.{startedRun, stateOf, leftOf, Left, lentAnswer, lentRun, asCall, askedPlan, Asked, Served, callLeft, recordLeft}
-use Rattle.output.proofs.Plans.{sticky}
 use Rattle.output.proofs.TabLaws.{length-tab}
 use Rattle.output.proofs.LentLaws.{lent-call, lent-record}
 

@@ -9,7 +9,7 @@ use lib.ListN.{length, set, take, replicate}
 use lib.Seq.{take-all}
 use lib.Dec.{leb}
 use borrow.Author.Tests.{leb-true, leb-false}
-use Rattle.output.specs.State.{Comment}
+use Rattle.meaning.specs.State.{Comment}
 use Rattle.output.specs.View.{tab, flagOf, ringAt, queueOf, stored, wordsOf, slotsOf}
 use Rattle.output.proofs.TabLaws.{length-tab, take-tab, tab-snoc}
 

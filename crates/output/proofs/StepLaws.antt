@@ -7,19 +7,19 @@ use native.Mathlib.Omega.{arith}
 use lib.ListN.{length}
 use lib.Dec.{leb, ltb}
 use Rattle.tree.specs.declared.record.RecordNo.{RecordNo}
+use Rattle.meaning.specs.declared.call.Call.{Call}
+use Rattle.meaning.specs.declared.answer.Refusal.{Refusal}
+use Rattle.meaning.specs.declared.answer.Refusal.the-variants.{Finished, NoNode, NoRoom}
+use Rattle.meaning.specs.declared.answer.Answer.{Answer}
+use Rattle.meaning.specs.declared.answer.Answer.the-variants.{Done, Refused}
+use Rattle.meaning.specs.State.{Script, State}
+use Rattle.meaning.specs.Pieces.{Piece, Emit}
+use Rattle.meaning.specs.Outcome.{Outcome, done, refused, refuseIf}
+use Rattle.meaning.specs.Calls.{act, Named, no-node, a-node, namedBy, ifThere, ifOpen, step}
+use Rattle.meaning.specs.World.{World, world, capacity, Result, result, made}
+use Rattle.meaning.specs.Plan.{make, goOn, exec}
 use Rattle.output.specs.declared.run.Run.{Run}
-use Rattle.output.specs.declared.call.Call.{Call}
-use Rattle.output.specs.declared.answer.Refusal.{Refusal}
-use Rattle.output.specs.declared.answer.Refusal.the-variants.{Finished, NoNode, NoRoom}
-use Rattle.output.specs.declared.answer.Answer.{Answer}
-use Rattle.output.specs.declared.answer.Answer.the-variants.{Done, Refused}
-use Rattle.output.specs.State.{Script, State}
-use Rattle.output.specs.Pieces.{Piece, Emit}
-use Rattle.output.specs.Outcome.{Outcome, done, refused, refuseIf}
-use Rattle.output.specs.Calls.{act, Named, no-node, a-node, namedBy, ifThere, ifOpen, step}
-use Rattle.output.specs.World.{World, world, capacity, Result, result, made}
-use Rattle.output.specs.Plan.{make, goOn, exec}
-use Rattle.output.specs.Run.{isRefused, answered, readyAnswer, readyRun, presentAnswer, presentRun}
+use Rattle.output.specs.Run.{isRefused, answered, movedRun, readyAnswer, readyRun, presentAnswer, presentRun}
 use Rattle.output.specs.View.{view, resultOf}
 use Rattle.output.specs.Parts.{steps, settles}
 
@@ -32,6 +32,13 @@ is-done (Refused e) h = let z : _≡_ {A = ℕ} 0 1 = cc in absurd (omega arith)
 -- a test of `stopped`, as the code makes it
 pub goes : {a : Answer} {t : Bool} → t ≡ isRefused a → t ≡ false → a ≡ Done
 goes {a} e h = is-done a (sym e ∙ h)
+
+-- an open run answered anew is the same run
+pub anew : (run : Run) → run .answer ≡ Done → answered run Done ≡ run
+anew run h = ap (answered run) (sym h)
+
+pub moved-anew : {m a : Run} (next : Run) {n : ℕ} → m ≡ movedRun a n → a ≡ answered next Done → m ≡ movedRun (answered next Done) n
+moved-anew next {n} e f = e ∙ ap (λ (z : Run). movedRun z n) f
 
 pub open-steps : (f : ℕ → State → Outcome) (a : Answer) (w : World) → a ≡ Done → steps f (result a w) ≡ made w (f (capacity w) (w .state))
 unfolding steps

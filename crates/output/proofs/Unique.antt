@@ -2,10 +2,10 @@
 use mathlib.Core.Path.{_≡_, sym, _∙_}
 use Prim.Native.Nat.{ℕ}
 use mathlib.Core.List.{List}
+use Rattle.meaning.specs.declared.call.Call.{Call}
+use Rattle.meaning.specs.World.{Result}
 use Rattle.output.specs.declared.state.State as code
 use Rattle.output.specs.declared.state.Step.{Step}
-use Rattle.output.specs.declared.call.Call.{Call}
-use Rattle.output.specs.World.{Result}
 use Rattle.output.specs.Served.{Served, openLeft, callLeft, recordLeft}
 
 -- what is handed back, and the buffer, whole

@@ -10,8 +10,8 @@ use lib.ListN.{length, set, getD, replicate, length-replicate, length-append, dr
 use lib.Seq.{sets, drop-cons}
 use lib.Dec.{ltb}
 use borrow.Author.Tests.{lt-ltb, le-ltb}
+use Rattle.meaning.specs.Pieces.{newline, space, breaks}
 use Rattle.output.specs.declared.room.Gap.{Gap}
-use Rattle.output.specs.Pieces.{newline, space, breaks}
 use Rattle.output.specs.View.{gapBytes}
 
 pub fill-turn : (l : List ℕ) (i e b : ℕ) → i < e → sets l i (replicate (e - i) b) ≡ sets (set l i b) (i + 1) (replicate (e - (i + 1)) b)

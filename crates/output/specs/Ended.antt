@@ -2,15 +2,15 @@
 use mathlib.Core.Path.{_≡_}
 use Prim.Native.Nat.{ℕ}
 use mathlib.Core.List.{List}
+use Rattle.meaning.specs.declared.answer.Answer.{Answer}
+use Rattle.meaning.specs.declared.answer.Answer.the-variants.{Done, Refused}
+use Rattle.meaning.specs.World.{world, Result}
+use Rattle.meaning.specs.Plan.{Plan, zeroed, run}
+use Rattle.meaning.specs.Opening.{scriptIn, opening}
 use Rattle.output.specs.declared.run.Run.{Run}
 use Rattle.output.specs.declared.state.State as code
 use Rattle.output.specs.declared.state.Step.{Step}
-use Rattle.output.specs.declared.answer.Answer.{Answer}
-use Rattle.output.specs.declared.answer.Answer.the-variants.{Done, Refused}
-use Rattle.output.specs.World.{world, Result}
-use Rattle.output.specs.Plan.{Plan, zeroed, run}
 use Rattle.output.specs.View.{view}
-use Rattle.output.specs.Opening.{scriptIn, opening}
 use Rattle.output.specs.Served.{leftOf, stateOf}
 
 -- n is the output's length before the run

@@ -5,19 +5,19 @@ use mathlib.Core.Bool.{Bool}
 use mathlib.Core.List.{List, [], _∷_}
 use lib.ListN.{length}
 use Rattle.tree.specs.declared.record.RecordNo.{RecordNo}
+use Rattle.meaning.specs.declared.answer.Answer.{Answer}
+use Rattle.meaning.specs.declared.answer.Answer.the-variants.{Done, Refused}
+use Rattle.meaning.specs.State.{Script, State}
+use Rattle.meaning.specs.Pieces.{gap, text, Emit, emit}
+use Rattle.meaning.specs.Outcome.{Outcome, refused}
+use Rattle.meaning.specs.Collect.{gather, nodeText}
+use Rattle.meaning.specs.Flush.{flush}
+use Rattle.meaning.specs.Calls.{settle, writeNode}
+use Rattle.meaning.specs.World.{world, capacity, Result, made}
+use Rattle.meaning.specs.Plan.{goOn}
 use Rattle.output.specs.declared.run.Run.{Run}
 use Rattle.output.specs.declared.room.Gap.{Gap}
 use Rattle.output.specs.declared.release.Way.{Way}
-use Rattle.output.specs.declared.answer.Answer.{Answer}
-use Rattle.output.specs.declared.answer.Answer.the-variants.{Done, Refused}
-use Rattle.output.specs.State.{Script, State}
-use Rattle.output.specs.Pieces.{gap, text, Emit, emit}
-use Rattle.output.specs.Outcome.{Outcome, refused}
-use Rattle.output.specs.Collect.{gather, nodeText}
-use Rattle.output.specs.Flush.{flush}
-use Rattle.output.specs.Calls.{settle, writeNode}
-use Rattle.output.specs.World.{world, capacity, Result, made}
-use Rattle.output.specs.Plan.{goOn}
 use Rattle.output.specs.Passes.{releaseOf}
 use Rattle.output.specs.View.{queueOf, view, resultOf, gapBytes}
 

@@ -5,15 +5,15 @@ use mathlib.Core.Bool.{Bool, true, false, cond}
 use mathlib.Core.List.{List, [], _∷_, _++_}
 use lib.ListN.{length}
 use lib.Dec.{ltb, eqb}
-use Rattle.output.specs.declared.call.Hint.{Hint}
-use Rattle.output.specs.declared.call.Hint.the-variants.{Line, Prefix, Suffix, Infix}
+use Rattle.meaning.specs.declared.call.Hint.{Hint}
+use Rattle.meaning.specs.declared.call.Hint.the-variants.{Line, Prefix, Suffix, Infix}
+use Rattle.meaning.specs.State.{Comment, State}
+use Rattle.meaning.specs.Pieces.{space, Emit}
+use Rattle.meaning.specs.Release.{takeUntil, commentText, stopLine, stopSpace, lineGap, trimmed, lineRelease, spaceGap, spaceRelease}
 use Rattle.output.specs.declared.release.Way.{Way}
 use Rattle.output.specs.declared.release.Way.the-variants.{Lines, Spaces}
 use Rattle.output.specs.declared.release.Fit.{Fit}
 use Rattle.output.specs.declared.release.Fit.the-variants.{Past, Goes}
-use Rattle.output.specs.State.{Comment, State}
-use Rattle.output.specs.Pieces.{space, Emit}
-use Rattle.output.specs.Release.{takeUntil, commentText, stopLine, stopSpace, lineGap, trimmed, lineRelease, spaceGap, spaceRelease}
 
 -- ---- the two releases
 

@@ -6,10 +6,10 @@ use lib.ListN.{length}
 use lib.Dec.{leb, ltb}
 use Rattle.tree.specs.declared.record.Record.{Record}
 use Rattle.tree.specs.declared.record.RecordNo.{RecordNo}
+use Rattle.meaning.specs.declared.answer.Refusal.the-variants.{Finished, NoNode}
+use Rattle.meaning.specs.declared.answer.Answer.{Answer}
+use Rattle.meaning.specs.declared.answer.Answer.the-variants.{Done, Refused}
 use Rattle.output.specs.declared.run.Run.{Run}
-use Rattle.output.specs.declared.answer.Refusal.the-variants.{Finished, NoNode}
-use Rattle.output.specs.declared.answer.Answer.{Answer}
-use Rattle.output.specs.declared.answer.Answer.the-variants.{Done, Refused}
 
 abbrev pub isRefused : Answer → Bool
 isRefused Done = false

@@ -7,22 +7,22 @@ use mathlib.Core.Option.{Option, none, some}
 use lib.ListN.{length}
 use lib.Dec.{ltb}
 use Rattle.tree.specs.declared.record.RecordNo.{RecordNo}
+use Rattle.meaning.specs.declared.call.Call.{Call}
+use Rattle.meaning.specs.declared.call.Call.the-variants.{WriteOwned, WriteRaw, Ignore}
+use Rattle.meaning.specs.declared.answer.Refusal.the-variants.{NoRoom, QueueFull, IndentOut, BadCall}
+use Rattle.meaning.specs.declared.answer.Answer.{Answer}
+use Rattle.meaning.specs.declared.answer.Answer.the-variants.{Done, Refused}
+use Rattle.meaning.specs.State.{Script, State, fresh}
+use Rattle.meaning.specs.Opening.{scriptIn, opening}
+use Rattle.meaning.specs.Lent.{anyOutside}
+use Rattle.meaning.specs.World.{World, world, Result, call, callRecord}
+use Rattle.meaning.specs.Plan.{Plan, make, refuse, Ran}
 use Rattle.output.specs.declared.run.Run.{Run}
 use Rattle.output.specs.declared.state.Small.{Small}
 use Rattle.output.specs.declared.state.State as code
 use Rattle.output.specs.declared.state.Step.{Step}
-use Rattle.output.specs.declared.call.Call.{Call}
-use Rattle.output.specs.declared.call.Call.the-variants.{WriteOwned, WriteRaw, Ignore}
 use Rattle.output.specs.declared.decode.Decoded.{Decoded}
 use Rattle.output.specs.declared.decode.Decoded.the-variants as decoded
-use Rattle.output.specs.declared.answer.Refusal.the-variants.{NoRoom, QueueFull, IndentOut, BadCall}
-use Rattle.output.specs.declared.answer.Answer.{Answer}
-use Rattle.output.specs.declared.answer.Answer.the-variants.{Done, Refused}
-use Rattle.output.specs.State.{Script, State, fresh}
-use Rattle.output.specs.Opening.{scriptIn, opening}
-use Rattle.output.specs.Lent.{anyOutside}
-use Rattle.output.specs.World.{World, world, Result, call, callRecord}
-use Rattle.output.specs.Plan.{Plan, make, refuse, Ran}
 use Rattle.output.specs.Run.{answered}
 use Rattle.output.specs.View.{queueOf, view, slotsOf}
 

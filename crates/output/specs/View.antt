@@ -7,15 +7,15 @@ use lib.Dec.{eqb}
 use Rattle.text.specs.declared.span.Span.{Span}
 use Rattle.tree.specs.Records.{spanOf}
 use Rattle.tree.specs.Table.{treeOf}
+use Rattle.meaning.specs.State.{Script, Comment, State}
+use Rattle.meaning.specs.Pieces.{newline, space}
+use Rattle.meaning.specs.Collect.{Entry, inner, remark, blank, stop}
+use Rattle.meaning.specs.World.{world, Result, result}
 use Rattle.output.specs.declared.ring.Comment as ring
 use Rattle.output.specs.declared.room.Gap.{Gap}
 use Rattle.output.specs.declared.run.Run.{Run}
 use Rattle.output.specs.declared.collect.Entry as entry
 use Rattle.output.specs.declared.collect.Entry.the-variants as code
-use Rattle.output.specs.State.{Script, Comment, State}
-use Rattle.output.specs.Pieces.{newline, space}
-use Rattle.output.specs.Collect.{Entry, inner, remark, blank, stop}
-use Rattle.output.specs.World.{world, Result, result}
 
 -- f at i, i + 1, .., n of them
 unfoldable pub tab : {A : Type 0} → (ℕ → A) → ℕ → ℕ → List A

@@ -4,8 +4,8 @@ use Prim.Native.Nat.{ℕ}
 use Rattle.text.specs.declared.span.Span.{Span}
 use Rattle.text.specs.Span.{textOf}
 use Rattle.tree.specs.Records.{spanOf}
-use Rattle.output.specs.declared.call.Literal.{Literal}
-use Rattle.output.specs.declared.call.Literal.the-variants.{Braces, Bars, Parens, OpenBrace, CloseBrace, Comma, Semicolon, Colon}
+use Rattle.meaning.specs.declared.call.Literal.{Literal}
+use Rattle.meaning.specs.declared.call.Literal.the-variants.{Braces, Bars, Parens, OpenBrace, CloseBrace, Comma, Semicolon, Colon}
 use Rattle.output.specs.declared.wording.Words.{Words}
 use Rattle.output.specs.declared.wording.Words.the-variants as words
 

@@ -1,8 +1,4 @@
 // The eleven calls on a run. All have one list of parameters and one contract: what is left is what the plan of this one call leaves.
-use crate::answer::Refusal;
-use crate::call::Call;
-use crate::call::Hint;
-use crate::call::Literal;
 use crate::collect::or_else;
 use crate::collect::process_comments;
 use crate::flush::due;
@@ -10,6 +6,7 @@ use crate::flush::flushed;
 use crate::flush::put;
 use crate::release::Way;
 use crate::release::release;
+use crate::release::release_waiting;
 use crate::room::Gap;
 use crate::room::lay;
 use crate::room::no_gap;
@@ -18,11 +15,16 @@ use crate::run::Run;
 use crate::wording::LITERALS;
 use crate::wording::Words;
 use crate::wording::text;
+use meaning::answer::Answer;
+use meaning::answer::Refusal;
+use meaning::call::Call;
+use meaning::call::Hint;
+use meaning::call::Literal;
 use tree::cursor::behind;
 use tree::record::RecordNo;
 use tree::table::node;
 ghost use mathlib.Core.Path.{_≡_};
-ghost use Rattle.output.specs.Plan.{make, Ran};
+ghost use Rattle.meaning.specs.Plan.{make, Ran};
 ghost use Rattle.output.specs.Passes.{wayOf};
 ghost use Rattle.output.specs.View.{scriptOf, resultOf};
 ghost use Rattle.output.specs.Parts.{WroteNode};
@@ -46,7 +48,8 @@ fn write_node(
     if passes(out.len(), at, gap, t.len()) {
         return run.refused(Refusal::NoRoom(at));
     }
-    let moved = next.moved(at + (gap.lines + gap.spaces) + t.len());
+    let moved = next.answered(Answer::Done)
+        .moved(at + (gap.lines + gap.spaces) + t.len());
     let got = process_comments(src, table, queue, moved, behind(table, k));
     if got.stopped() {
         return run.refused_as(got);
@@ -163,7 +166,7 @@ pub fn comments(
 ) -> Run
     ensures { λ r. ⌜ Ran (scriptOf (now (src .entry)) (now (table .entry))) (make (Call.Comments h)) (resultOf run (now (queue .entry)) (now (out .entry))) (resultOf r (now (queue .exit)) (now (out .exit))) ⌝ }
 {
-    release(src, queue, out, run.ready(), way_of(h))
+    release_waiting(src, queue, out, run.ready(), way_of(h))
 }
 
 // The byte is a signed one; `indent` stays from 0 to 64.
@@ -210,7 +213,7 @@ pub fn nl(
     if n == 0 {
         return go;
     }
-    let r = release(src, queue, out, go, Way::Lines(true));
+    let r = release_waiting(src, queue, out, go, Way::Lines(true));
     if r.stopped() {
         return r;
     }
@@ -220,7 +223,7 @@ pub fn nl(
 pub fn ws(src: &[u8], table: &[u32], queue: &mut [u32; 1024], out: &mut [u8], run: Run) -> Run
     ensures { λ r. ⌜ Ran (scriptOf (now (src .entry)) (now (table .entry))) (make Call.Ws) (resultOf run (now (queue .entry)) (now (out .entry))) (resultOf r (now (queue .exit)) (now (out .exit))) ⌝ }
 {
-    let r = release(src, queue, out, run.ready(), Way::Spaces(true, false));
+    let r = release_waiting(src, queue, out, run.ready(), Way::Spaces(true, false));
     if r.stopped() {
         return r;
     }

@@ -1,16 +1,16 @@
 // The checks on what is lent, before all else: 1, 2, 3, 7 as at opening, then 4, 5, 6 on the state.
-use crate::answer::Answer;
-use crate::answer::Refusal;
 use crate::ring::comment_at;
 use crate::run::Run;
+use meaning::answer::Answer;
+use meaning::answer::Refusal;
 use text::chars::in_source;
 use tree::open::Opening;
 use tree::record::RecordNo;
 ghost use mathlib.Core.Path.{_≡_};
 ghost use Rattle.tree.specs.Opening.{opened};
-ghost use Rattle.output.specs.Lent.{anyOutside};
+ghost use Rattle.meaning.specs.Lent.{anyOutside};
+ghost use Rattle.meaning.specs.Opening.{answerTo};
 ghost use Rattle.output.specs.View.{queueOf};
-ghost use Rattle.output.specs.Opening.{answerTo};
 ghost use Rattle.output.specs.Served.{lentRun};
 
 // What opening answers to a source and a tree.

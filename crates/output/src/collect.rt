@@ -1,8 +1,8 @@
 // Collecting: comments behind a record go into the queue.
-use crate::answer::Refusal;
 use crate::ring::Comment;
 use crate::ring::push;
 use crate::run::Run;
+use meaning::answer::Refusal;
 use text::lines::count_newlines;
 use text::span::Span;
 use text::span::part;
@@ -13,7 +13,7 @@ use tree::table::size;
 ghost use mathlib.Core.Path.{_≡_};
 ghost use Rattle.text.specs.Lines.{newlines};
 ghost use Rattle.text.specs.Span.{textOf};
-ghost use Rattle.output.specs.Collect.{entryOf, orElse};
+ghost use Rattle.meaning.specs.Collect.{entryOf, orElse};
 ghost use Rattle.output.specs.Run.{collectedRun};
 ghost use Rattle.output.specs.View.{asEntry, scriptOf};
 ghost use Rattle.output.specs.Parts.{Gathered};

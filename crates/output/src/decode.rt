@@ -1,14 +1,14 @@
 // A call record read from its bytes: kind and body whole, with nothing behind them.
-use crate::call::Call;
-use crate::call::Hint;
-use crate::call::Literal;
+use meaning::call::Call;
+use meaning::call::Hint;
+use meaning::call::Literal;
 use tree::record::RecordNo;
 ghost use mathlib.Core.Path.{_≡_};
 ghost use mathlib.Core.List.{_∷_, [], map};
 ghost use Prim.Native.Nat.{_<_};
 ghost use lib.ListN.{length, drop};
 ghost use Rattle.tree.specs.Records.{four};
-ghost use Rattle.output.specs.CallRecord.{decode, at, literals, hints};
+ghost use Rattle.meaning.specs.CallRecord.{decode, at, literals, hints};
 ghost use Rattle.output.specs.Served.{asCall, numbered};
 
 pub enum Decoded {

@@ -1,6 +1,4 @@
 // The public functions. Source, tree, state and buffer are lent anew at each, and each promises its whole result and the whole buffer.
-use crate::answer::Refusal;
-use crate::call::Call;
 use crate::calls::make_call;
 use crate::checks::lent;
 use crate::checks::opening;
@@ -11,6 +9,8 @@ use crate::state::Step;
 use crate::state::fresh;
 use crate::state::left;
 use crate::state::started;
+use meaning::answer::Refusal;
+use meaning::call::Call;
 use tree::table::decode;
 use tree::table::first;
 ghost use mathlib.Core.Path.{_≡_};

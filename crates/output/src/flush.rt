@@ -1,5 +1,4 @@
 // The flush: the white space that is due, and a text behind it.
-use crate::answer::Refusal;
 use crate::room::Gap;
 use crate::room::lay;
 use crate::room::line_break;
@@ -7,9 +6,11 @@ use crate::room::no_gap;
 use crate::room::one_space;
 use crate::room::passes;
 use crate::run::Run;
+use meaning::answer::Answer;
+use meaning::answer::Refusal;
 ghost use mathlib.Core.Path.{_≡_};
 ghost use mathlib.Core.List.{[]};
-ghost use Rattle.output.specs.Flush.{breaking, flushGap};
+ghost use Rattle.meaning.specs.Flush.{breaking, flushGap};
 ghost use Rattle.output.specs.Run.{flushedRun};
 ghost use Rattle.output.specs.View.{view, gapBytes};
 ghost use Rattle.output.specs.Parts.{PutText};
@@ -63,5 +64,6 @@ pub fn put(out: &mut [u8], run: Run, preserve: bool, t: &[u8]) -> Run
         return run.refused(Refusal::NoRoom(at));
     }
     lay(out, at, gap, t);
-    flushed(run, preserve).moved(at + (gap.lines + gap.spaces) + t.len())
+    let next = flushed(run.answered(Answer::Done), preserve);
+    next.moved(at + (gap.lines + gap.spaces) + t.len())
 }

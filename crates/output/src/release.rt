@@ -1,6 +1,5 @@
 // The releases: comments from the head of the queue are let out, in two passes over the ring. The first finds how many go and how far
 // they reach, so that nothing is written where there is no room; the second writes them.
-use crate::answer::Refusal;
 use crate::ring::Comment;
 use crate::ring::comment_at;
 use crate::room::Gap;
@@ -10,6 +9,7 @@ use crate::room::no_gap;
 use crate::room::one_space;
 use crate::room::passes;
 use crate::run::Run;
+use meaning::answer::Refusal;
 use text::lines::trimmed;
 use text::span::part;
 ghost use mathlib.Core.Path.{_≡_};
@@ -193,4 +193,16 @@ pub fn release(src: &[u8], queue: &[u32; 1024], out: &mut [u8], run: Run, way: W
             let_out(run, n, len + (gap.lines + gap.spaces))
         }
     }
+}
+
+// A release by a call that most often finds nothing waiting: then nothing changes, where the output is inside the buffer.
+pub fn release_waiting(src: &[u8], queue: &[u32; 1024], out: &mut [u8], run: Run, way: Way) -> Run
+    ensures { λ r. ⌜ Released (now (src .entry)) way (now (queue .entry)) run (now (out .entry)) r (now (out .exit)) ⌝ }
+{
+    if run.count == 0 {
+        if run.len <= out.len() {
+            return run;
+        }
+    }
+    release(src, queue, out, run, way)
 }

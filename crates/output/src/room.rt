@@ -6,7 +6,7 @@ ghost use Prim.Native.Nat.{_+_, _≤_};
 ghost use lib.ListN.{length, replicate};
 ghost use lib.Seq.{sets};
 ghost use lib.Dec.{ltb};
-ghost use Rattle.output.specs.Pieces.{space, breaks};
+ghost use Rattle.meaning.specs.Pieces.{space, breaks};
 ghost use Rattle.output.specs.View.{gapBytes};
 
 // White space in front of a text: newlines, then spaces.

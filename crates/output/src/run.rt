@@ -1,6 +1,6 @@
 // The engine's scalars by value, as a call or a run carries them. A refusal is sticky: it stays, and nothing changes any more.
-use crate::answer::Answer;
-use crate::answer::Refusal;
+use meaning::answer::Answer;
+use meaning::answer::Refusal;
 use tree::record::RecordNo;
 use tree::table::size;
 ghost use mathlib.Core.Path.{_≡_};
@@ -95,7 +95,7 @@ impl Run {
         self
     }
 
-    // Refusal 10: what every call asks first.
+    // Refusal 10: what every call asks first. An open run is answered anew, so that no call copies the bytes that a refusal would have.
     pub fn ready(self) -> Run
         ensures { λ r. ⌜ r ≡ readyRun self ⌝ }
     {
@@ -105,7 +105,7 @@ impl Run {
         if self.finished {
             return self.refused(Refusal::Finished(self.len));
         }
-        self
+        self.answered(Answer::Done)
     }
 
     // Refusals 10 and 11: what a call on node k asks first.

@@ -1,9 +1,9 @@
 // The engine's state as a caller holds it, and what a public function hands back.
-use crate::answer::Answer;
 use crate::ring::tidy;
 use crate::run::Run;
+use meaning::answer::Answer;
 ghost use mathlib.Core.Path.{_≡_};
-ghost use Rattle.output.specs.State.{fresh};
+ghost use Rattle.meaning.specs.State.{fresh};
 ghost use Rattle.output.specs.Served.{encoded, startedRun, Left};
 
 // The scalars; the queue has `count` comments.

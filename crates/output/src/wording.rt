@@ -1,5 +1,5 @@
 // The text that a call writes: a part of the source or of the list of literals.
-use crate::call::Literal;
+use meaning::call::Literal;
 use text::span::BytePos;
 use text::span::Span;
 use text::span::part;

@@ -4,9 +4,9 @@ use mathlib.Core.Bool.{Bool, true, false}
 use mathlib.Core.List.{List}
 use Prim.Native.Nat.{ℕ}
 use native.Mathlib.Omega.{arith}
-use Rattle.output.specs.declared.answer.Answer.{Answer}
-use Rattle.output.specs.declared.answer.Answer.the-variants.{Done, Refused}
-use Rattle.output.specs.Plan.{zeroed}
+use Rattle.meaning.specs.declared.answer.Answer.{Answer}
+use Rattle.meaning.specs.declared.answer.Answer.the-variants.{Done, Refused}
+use Rattle.meaning.specs.Plan.{zeroed}
 use Rattle.output.specs.Run.{isRefused}
 use Rattle.output.specs.Ended.{endedBuffer}
 

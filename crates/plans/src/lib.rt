@@ -1,8 +1,8 @@
 // Small plans that layout rules share, in the form of every rule: straight-line calls on a run.
 pub mod runs;
 
-use output::call::Call;
-use output::call::Literal;
+use meaning::call::Call;
+use meaning::call::Literal;
 use output::calls::indent;
 use output::calls::lit;
 use output::calls::nl;
@@ -10,7 +10,7 @@ use output::calls::write_owned;
 use output::calls::ws;
 use output::run::Run;
 use tree::record::RecordNo;
-ghost use Rattle.output.specs.Plan.{make, _then_, Ran};
+ghost use Rattle.meaning.specs.Plan.{make, _then_, Ran};
 ghost use Rattle.output.specs.View.{scriptOf, resultOf};
 
 // A comma and a space.

@@ -1,7 +1,7 @@
 // A run: the checks, a plan, and where it is refused the engine put back and the output zeroed from its former length on.
 use crate::statement;
-use output::call::Call;
-use output::call::Literal;
+use meaning::call::Call;
+use meaning::call::Literal;
 use output::checks::lent;
 use output::checks::opening;
 use output::room::fill;
@@ -14,7 +14,7 @@ use tree::record::RecordNo;
 use tree::table::decode;
 use tree::table::first;
 ghost use mathlib.Core.Path.{_≡_};
-ghost use Rattle.output.specs.Plan.{make, _then_, zeroed};
+ghost use Rattle.meaning.specs.Plan.{make, _then_, zeroed};
 ghost use Rattle.output.specs.Served.{Served};
 ghost use Rattle.output.specs.Ended.{Ended, runLeft};
 

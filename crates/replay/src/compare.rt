@@ -1,6 +1,6 @@
 // What a call answers and leaves, held against what was recorded of it: eight words of state, four for each waiting comment, the output.
-use output::answer;
-use output::answer::Answer;
+use meaning::answer;
+use meaning::answer::Answer;
 use output::state::State;
 
 // The answer as recorded: 0, or the refusal's number times 2^32 and its place.

@@ -1,5 +1,5 @@
 -- `plans::comma` meets its contract: its calls, in the order of the code. Assumes nothing.
-use Rattle.output.proofs.Chain.{_▹_}
+use Rattle.meaning.proofs.Chain.{_▹_}
 use borrow.Author.Needs.{needs}
 use Rattle.plans.proofs.comma.Statement.{statement}
 use Rattle.plans.proofs.comma.Tie as tie

@@ -1,5 +1,5 @@
 -- `plans::open_block` meets its contract: its calls, in the order of the code. Assumes nothing.
-use Rattle.output.proofs.Chain.{_▹_}
+use Rattle.meaning.proofs.Chain.{_▹_}
 use borrow.Author.Needs.{needs}
 use Rattle.plans.proofs.open_block.Statement.{statement}
 use Rattle.plans.proofs.open_block.Tie as tie

@@ -1,5 +1,5 @@
 -- `plans::statement` meets its contract: its calls, in the order of the code. Assumes nothing.
-use Rattle.output.proofs.Chain.{_▹_}
+use Rattle.meaning.proofs.Chain.{_▹_}
 use borrow.Author.Needs.{needs}
 use Rattle.plans.proofs.statement.Statement.{statement}
 use Rattle.plans.proofs.statement.Tie as tie

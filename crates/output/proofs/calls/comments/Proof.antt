@@ -6,7 +6,7 @@ use Rattle.output.proofs.calls.comments.Statement.{statement}
 use Rattle.output.proofs.calls.comments.Tie as tie
 
 returns : tie.Need-returns
-returns c = ran-ready (c .before .before .before .before .before .before .before .before .before .before .args .run) (c .before .before .before .before .ready .ensures) refl (by-comments (c .before .before .before .way-of .ensures) (c .before .before .release .ensures))
+returns c = ran-ready (c .before .before .before .before .before .before .before .before .before .before .args .run) (c .before .before .before .before .ready .ensures) refl (by-comments (c .before .before .before .way-of .ensures) (c .before .before .release-waiting .ensures))
 
 pub comments-spec : {M : Type 1} → statement M
 comments-spec =

@@ -1,10 +1,10 @@
 -- `output::checks::any_outside` meets its contract. The invariant: the rest says what the whole says. Assumes nothing.
 use Prim.Native.Nat.{_+_, _-_, _≤_}
+use Rattle.meaning.specs.Lent.{anyOutside}
+use Rattle.output.specs.View.{queueOf}
 use Rattle.output.proofs.LentLaws.{outside-here, outside-more}
 use Rattle.output.proofs.RingLaws.{ring-next}
 use Rattle.output.proofs.TabLaws.{tab-all, tab-none}
-use Rattle.output.specs.Lent.{anyOutside}
-use Rattle.output.specs.View.{queueOf}
 use mathlib.Core.Path.{_∙_, _≡_, ap, sym}
 use borrow.Author.Needs.{needs}
 use native.Mathlib.Omega.{arith}

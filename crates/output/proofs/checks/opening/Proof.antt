@@ -1,5 +1,5 @@
 -- `output::checks::opening` meets its contract. Assumes nothing.
-use Rattle.output.specs.Opening.{answerTo}
+use Rattle.meaning.specs.Opening.{answerTo}
 use mathlib.Core.Path.{_∙_, ap, sym}
 use borrow.Author.Needs.{needs}
 use Rattle.output.proofs.checks.opening.Statement.{statement}

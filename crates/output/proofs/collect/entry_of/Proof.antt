@@ -1,6 +1,6 @@
 -- `output::collect::entry_of` meets its contract: by children, then by kind. Assumes nothing.
+use Rattle.meaning.specs.Collect.{blank, entryOf}
 use Rattle.output.proofs.GatherLaws.{at-inner, at-stop}
-use Rattle.output.specs.Collect.{blank, entryOf}
 use mathlib.Core.Path.{_≡_, ap}
 use borrow.Author.Needs.{needs}
 use native.Mathlib.Omega.{arith}

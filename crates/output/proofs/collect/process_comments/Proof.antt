@@ -1,9 +1,9 @@
 -- `output::collect::process_comments` meets its contract. The invariant: from here on is as much as from the start. Assumes nothing.
 use Prim.Native.Nat.{_-_}
-use Rattle.output.proofs.GatherLaws.{Gathering, gather-blank, gather-end, gather-full, gather-inner, gather-note, gather-start, gather-stop}
-use Rattle.output.specs.Cases.{table}
-use Rattle.output.specs.Plan.{run}
+use Rattle.meaning.specs.Cases.{table}
+use Rattle.meaning.specs.Plan.{run}
 use Rattle.output.specs.View.{asEntry, scriptOf}
+use Rattle.output.proofs.GatherLaws.{Gathering, gather-blank, gather-end, gather-full, gather-inner, gather-note, gather-start, gather-stop}
 use lib.ListN.{length}
 use mathlib.Core.Path.{_≡_, ap}
 use Rattle.tree.specs.Table.{treeOf}

@@ -1,6 +1,6 @@
 -- `output::decode::bare` meets its contract. Assumes nothing.
+use Rattle.meaning.specs.CallRecord as by-record
 use Rattle.output.proofs.DecodeLaws.{bare-none}
-use Rattle.output.specs.CallRecord as by-record
 use Rattle.output.proofs.decode.bare.Statement.{statement}
 use Rattle.output.proofs.decode.bare.Tie as tie
 

@@ -1,7 +1,7 @@
 -- `output::decode::decode` meets its contract: by the number of bytes. Assumes nothing.
 use Rattle.output.proofs.DecodeLaws.{empty-none, five-bytes, long-none, one-byte, two-bytes}
 use mathlib.Core.Path.{_∙_, ap, sym}
-use Rattle.output.specs.CallRecord as by-record
+use Rattle.meaning.specs.CallRecord as by-record
 use borrow.Author.Needs.{needs}
 use Rattle.output.proofs.decode.decode.Statement.{statement}
 use Rattle.output.proofs.decode.decode.Tie as tie

@@ -2,8 +2,8 @@
 use Rattle.output.proofs.DecodeLaws.{at-none}
 use mathlib.Core.Bool.{false, true}
 use mathlib.Core.List.{[], _∷_}
-use Rattle.output.specs.declared.call.Call.the-variants.{FlushWhitespace}
-use Rattle.output.specs.CallRecord as by-record
+use Rattle.meaning.specs.declared.call.Call.the-variants.{FlushWhitespace}
+use Rattle.meaning.specs.CallRecord as by-record
 use native.Mathlib.Omega.{arith}
 use Rattle.output.proofs.decode.flush.Statement.{statement}
 use Rattle.output.proofs.decode.flush.Tie as tie

@@ -1,9 +1,9 @@
 -- `output::decode::hint` meets its contract. Assumes nothing.
+use Rattle.meaning.specs.CallRecord.{hints}
 use Rattle.output.proofs.DecodeLaws.{at-none}
-use Rattle.output.specs.CallRecord.{hints}
 use mathlib.Core.List.{map}
 use mathlib.Core.Path.{_≡_}
-use Rattle.output.specs.declared.call.Call.the-variants.{Comments}
+use Rattle.meaning.specs.declared.call.Call.the-variants.{Comments}
 use native.Mathlib.Omega.{arith}
 use Rattle.output.proofs.decode.hint.Statement.{statement}
 use Rattle.output.proofs.decode.hint.Tie as tie

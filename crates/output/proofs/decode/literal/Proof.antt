@@ -1,9 +1,9 @@
 -- `output::decode::literal` meets its contract. Assumes nothing.
+use Rattle.meaning.specs.CallRecord.{literals}
 use Rattle.output.proofs.DecodeLaws.{at-none}
-use Rattle.output.specs.CallRecord.{literals}
 use mathlib.Core.List.{map}
 use mathlib.Core.Path.{_≡_}
-use Rattle.output.specs.declared.call.Call.the-variants.{Lit}
+use Rattle.meaning.specs.declared.call.Call.the-variants.{Lit}
 use native.Mathlib.Omega.{arith}
 use Rattle.output.proofs.decode.literal.Statement.{statement}
 use Rattle.output.proofs.decode.literal.Tie as tie

@@ -1,6 +1,6 @@
 -- `output::decode::short` meets its contract. Assumes nothing.
+use Rattle.meaning.specs.CallRecord as by-record
 use Rattle.output.proofs.DecodeLaws.{short-none}
-use Rattle.output.specs.CallRecord as by-record
 use borrow.Author.Needs.{needs}
 use Rattle.output.proofs.decode.short.Statement.{statement}
 use Rattle.output.proofs.decode.short.Tie as tie

@@ -1,8 +1,8 @@
 -- `output::engine::asked` meets its contract. Assumes nothing.
-use Rattle.output.proofs.Chain.{keeps}
+use Rattle.meaning.proofs.Chain.{keeps}
+use Rattle.output.specs.Served.{asCall}
 use Rattle.output.proofs.ServeLaws.{asked-bad, asked-made, asked-stopped}
 use Rattle.output.proofs.StepLaws.{goes}
-use Rattle.output.specs.Served.{asCall}
 use mathlib.Core.Path.{_∙_, ap, sym}
 use borrow.Author.Needs.{needs}
 use Rattle.output.proofs.engine.asked.Statement.{statement}

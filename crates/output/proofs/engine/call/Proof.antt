@@ -1,6 +1,6 @@
 -- `output::engine::call` meets its contract. Assumes nothing.
 use Prim.Native.Nat.{ℕ}
-use Rattle.output.proofs.Chain.{keeps}
+use Rattle.meaning.proofs.Chain.{keeps}
 use Rattle.output.proofs.ServeLaws.{serve-call}
 use lib.ListN.{replicate}
 use lib.ListN.{length-replicate}

@@ -1,7 +1,8 @@
 -- `output::flush::put` meets its contract: refused already, no room, or written. Assumes nothing.
 use Rattle.output.proofs.CallLaws.{put-done, put-past, put-stopped}
-use Rattle.output.proofs.StepLaws.{goes}
-use mathlib.Core.Path.{_∙_, sym}
+use Rattle.output.proofs.StepLaws.{anew, goes}
+use Rattle.output.specs.Run.{flushedRun}
+use mathlib.Core.Path.{_∙_, ap, sym}
 use borrow.Author.Needs.{needs}
 use native.Mathlib.Omega.{arith}
 use Rattle.output.proofs.flush.put.Statement.{statement}
@@ -14,16 +15,16 @@ returns-2 : tie.Need-returns-2
 returns-2 c = put-past (c .before .before .before .before .before .before .before .before .args .t .now) (c .before .before .before .before .before .before .before .before .args .run) (c .before .before .before .due .result) (c .before .before .before .due .ensures) (goes (c .before .before .before .before .before .stopped .ensures) (c .before .before .before .before .if1 .left)) (sym (c .before .before .passes .ensures .0) ∙ c .before .if2 .taken) (c .refused .ensures)
 
 add-moved : tie.Need-add-moved
-add-moved c = omega (arith, c .before .before .before .before .before .before .before .passes .ensures .1 (c .before .before .before .before .before .before .if2 .left), c .before .before .before .before .before .before .before .before .before .before .before .before .before .good)
+add-moved c = omega (arith, c .before .before .before .before .before .before .before .before .passes .ensures .1 (c .before .before .before .before .before .before .before .if2 .left), c .before .before .before .before .before .before .before .before .before .before .before .before .before .before .good)
 
 add-moved-2 : tie.Need-add-moved-2
-add-moved-2 c = omega (arith, c .before .before .before .before .before .before .before .passes .ensures .1 (c .before .before .before .before .before .before .if2 .left), c .before .before .before .before .before .before .before .before .before .before .before .before .before .good)
+add-moved-2 c = omega (arith, c .before .before .before .before .before .before .before .before .passes .ensures .1 (c .before .before .before .before .before .before .before .if2 .left), c .before .before .before .before .before .before .before .before .before .before .before .before .before .before .good)
 
 add-moved-3 : tie.Need-add-moved-3
-add-moved-3 c = omega (arith, c .before .before .before .before .before .before .before .passes .ensures .1 (c .before .before .before .before .before .before .if2 .left), c .before .before .before .before .before .before .before .before .before .before .before .before .before .good)
+add-moved-3 c = omega (arith, c .before .before .before .before .before .before .before .before .passes .ensures .1 (c .before .before .before .before .before .before .before .if2 .left), c .before .before .before .before .before .before .before .before .before .before .before .before .before .before .good)
 
 returns-3 : tie.Need-returns-3
-returns-3 c = put-done (c .before .before .before .before .before .before .before .before .before .before .before .before .before .before .args .t .now) (c .before .before .before .before .before .before .before .before .before .before .before .before .before .before .args .run) (c .before .before .before .before .before .before .before .before .before .due .result) (c .before .before .before .before .before .before .before .before .before .due .ensures) (goes (c .before .before .before .before .before .before .before .before .before .before .before .stopped .ensures) (c .before .before .before .before .before .before .before .before .before .before .if1 .left)) (sym (c .before .before .before .before .before .before .before .before .passes .ensures .0) ∙ c .before .before .before .before .before .before .before .if2 .left) (c .before .before .flushed .ensures) (c .moved .ensures) (c .before .before .before .before .before .lay .ensures)
+returns-3 c = put-done (c .before .before .before .before .before .before .before .before .before .before .before .before .before .before .before .args .t .now) (c .before .before .before .before .before .before .before .before .before .before .before .before .before .before .before .args .run) (c .before .before .before .before .before .before .before .before .before .before .due .result) (c .before .before .before .before .before .before .before .before .before .before .due .ensures) (goes (c .before .before .before .before .before .before .before .before .before .before .before .before .stopped .ensures) (c .before .before .before .before .before .before .before .before .before .before .before .if1 .left)) (sym (c .before .before .before .before .before .before .before .before .before .passes .ensures .0) ∙ c .before .before .before .before .before .before .before .before .if2 .left) (c .before .before .flushed .ensures ∙ ap (flushedRun _) (c .before .before .before .answered .ensures ∙ anew _ (goes (c .before .before .before .before .before .before .before .before .before .before .before .before .stopped .ensures) (c .before .before .before .before .before .before .before .before .before .before .before .if1 .left)))) (c .moved .ensures) (c .before .before .before .before .before .before .lay .ensures)
 
 pub put-spec : {M : Type 1} → statement M
 put-spec =
@@ -36,6 +37,7 @@ put-spec =
     (λ c κs. search needs)
     returns-2
     (λ c κs. c .before .before .passes .ensures .1 (c .before .if2 .left))
+    (λ c κs. search needs)
     (λ c κs. search needs)
     add-moved
     add-moved-2

@@ -1,11 +1,11 @@
 -- `output::release::measure` meets its contract. The invariant: what is counted and reached, and what is still to go, make up the whole.
 -- Assumes nothing.
 use Prim.Native.Nat.{_+_, _-_, _≤_}
+use Rattle.meaning.specs.Plan.{run}
+use Rattle.output.specs.View.{queueOf}
 use Rattle.output.proofs.PassLaws.{Measuring, measure-end, measure-full, measure-over, measure-start, measure-stop, measure-turn, put-of}
 use Rattle.output.proofs.RingLaws.{ring-next}
 use Rattle.output.proofs.TabLaws.{tab-all, tab-none}
-use Rattle.output.specs.Plan.{run}
-use Rattle.output.specs.View.{queueOf}
 use mathlib.Core.Path.{_∙_, sym}
 use borrow.Author.Needs.{needs}
 use native.Mathlib.Omega.{arith}

@@ -1,7 +1,7 @@
 -- `output::release::release` meets its contract: refused already, no room, or both passes. Assumes nothing.
+use Rattle.meaning.specs.CallRecord.{at}
 use Rattle.output.proofs.ReleaseLaws.{release-done, release-few, release-over, release-past, release-room}
 use Rattle.output.proofs.StepLaws.{goes, stopped-steps}
-use Rattle.output.specs.CallRecord.{at}
 use mathlib.Core.Path.{_∙_, sym}
 use borrow.Author.Needs.{needs}
 use native.Mathlib.Omega.{arith}

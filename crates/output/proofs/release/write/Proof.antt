@@ -1,11 +1,11 @@
 -- `output::release::write` meets its contract. The invariant: what is written, and what is still to write, make up the whole.
 -- Assumes nothing.
 use Prim.Native.Nat.{_+_, _-_, _≤_}
+use Rattle.meaning.specs.Plan.{run}
+use Rattle.output.specs.View.{queueOf}
 use Rattle.output.proofs.PassLaws.{Writing, put-of, write-end, write-room, write-start, write-turn}
 use Rattle.output.proofs.RingLaws.{ring-next}
 use Rattle.output.proofs.TabLaws.{tab-all, tab-none}
-use Rattle.output.specs.Plan.{run}
-use Rattle.output.specs.View.{queueOf}
 use borrow.Author.Needs.{needs}
 use native.Mathlib.Omega.{arith}
 use Rattle.output.proofs.release.write.Statement.{statement}

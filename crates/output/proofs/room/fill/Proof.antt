@@ -1,7 +1,7 @@
 -- `output::room::fill` meets its contract. The invariant: the rest from here is the whole from the start. Assumes nothing.
 use Prim.Native.Nat.{_+_, _-_, _≤_}
+use Rattle.meaning.specs.CallRecord.{at}
 use Rattle.output.proofs.WriteLaws.{fill-end, fill-turn}
-use Rattle.output.specs.CallRecord.{at}
 use lib.ListN.{length, replicate}
 use lib.Seq.{sets}
 use mathlib.Core.Path.{_∙_, _≡_, sym}

@@ -1,6 +1,6 @@
 -- `output::run::Run::ready` meets its contract. Assumes nothing.
 use Rattle.output.proofs.GapLaws.{ready-finished, ready-open, ready-stopped}
-use Rattle.output.proofs.StepLaws.{goes}
+use Rattle.output.proofs.StepLaws.{anew, goes}
 use mathlib.Core.Path.{_∙_, sym}
 use borrow.Author.Needs.{needs}
 use Rattle.output.proofs.run.Run.ready.Statement.{statement}
@@ -13,7 +13,9 @@ returns-2 : tie.Need-returns-2
 returns-2 c = c .refused .ensures ∙ ready-finished _ (goes (c .before .before .before .stopped .ensures) (c .before .before .if1 .left)) (c .before .if2 .taken)
 
 returns-3 : tie.Need-returns-3
-returns-3 c = ready-open _ (goes (c .before .before .stopped .ensures) (c .before .if1 .left)) (c .if2 .left)
+returns-3 c =
+    let open-yet = goes (c .before .before .before .stopped .ensures) (c .before .before .if1 .left) in
+    c .answered .ensures ∙ anew _ open-yet ∙ ready-open _ open-yet (c .before .if2 .left)
 
 pub ready-spec : {M : Type 1} → statement M
 ready-spec =
@@ -23,4 +25,5 @@ ready-spec =
     returns
     (λ c κs. search needs)
     returns-2
+    (λ c κs. search needs)
     returns-3)
