@@ -1,0 +1,26 @@
+-- Any two outcomes that the promise of an exported function allows coincide; and a number tells refusal and place apart. Assumes nothing.
+use mathlib.Core.Path.{_≡_, sym, _∙_}
+use Prim.Native.Nat.{ℕ, _/_, _%_, _<_}
+use native.Mathlib.Omega.{arith}
+use mathlib.Core.List.{List}
+use Rattle.meaning.specs.declared.answer.Answer.{Answer}
+use Rattle.meaning.specs.Numbers.{seen}
+use Rattle.savetnuok.specs.Exported.{packed, Opened, Called}
+
+-- the answer, and every byte of what was lent
+pub record Same (n n′ : ℕ) (st st′ b b′ : List ℕ) : Type 0 where
+  pub answer : n ≡ n′
+  pub state : st ≡ st′
+  pub buffer : b ≡ b′
+
+module _ (src tree st : List ℕ) where
+  pub open-once : {n n′ : ℕ} {st₁ st₂ : List ℕ} → Opened src tree st n st₁ → Opened src tree st n′ st₂ → (n ≡ n′) × (st₁ ≡ st₂)
+  open-once h k = (h .answer ∙ sym (k .answer), h .state ∙ sym (k .state))
+
+  pub call-once : (b bytes : List ℕ) {n n′ : ℕ} {st₁ st₂ b₁ b₂ : List ℕ} → Called src tree st b bytes n st₁ b₁ → Called src tree st b bytes n′ st₂ b₂ → Same n n′ st₁ st₂ b₁ b₂
+  call-once b bytes h k = record { answer = h .answer ∙ sym (k .answer); state = h .state ∙ sym (k .state); buffer = h .buffer ∙ sym (k .buffer) }
+
+-- the number above, the place below
+pub unpacked : (a : Answer) → seen a .place < 0x100000000 → (packed a / 0x100000000 ≡ seen a .number) × (packed a % 0x100000000 ≡ seen a .place)
+unfolding packed
+unpacked a h = (omega arith, omega arith)

@@ -1,0 +1,26 @@
+-- `savetnuok::words::put` meets its contract. Assumes nothing.
+use Rattle.savetnuok.proofs.WordLaws.{put-is}
+use lib.ListN.{length-set}
+use borrow.Author.Needs.{needs}
+use native.Mathlib.Omega.{arith}
+use Rattle.savetnuok.proofs.words.put.Statement.{statement}
+use Rattle.savetnuok.proofs.words.put.Tie as tie
+
+pub put-spec : {M : Type 1} → statement M
+put-spec =
+    tie.close
+    (tie.spec
+    (λ c. search needs)
+    (λ c. search needs)
+    (λ c. search needs)
+    (λ c. search needs)
+    (λ c. search needs)
+    (λ c. simp length-set (omega arith))
+    (λ c. search needs)
+    (λ c. search needs)
+    (λ c. simp length-set (omega arith))
+    (λ c. search needs)
+    (λ c. search needs)
+    (λ c. simp length-set (omega arith))
+    (λ c. search needs)
+    (λ c. put-is _ _ _ (c .pre)))

@@ -1,0 +1,83 @@
+// The functions that a C program links: numbers and byte slices only. Each asks all it needs of what is lent, and promises its answer
+// and every byte of what it may write.
+use crate::numbers::packed;
+use crate::state_bytes::SIZE;
+use crate::state_bytes::read_state;
+use crate::state_bytes::shaped;
+use crate::state_bytes::write_state;
+use crate::words::word;
+use meaning::answer::Answer;
+use meaning::answer::Refusal;
+use output::checks::opening;
+use output::engine::record;
+use output::state::fresh;
+use tree::record::RecordNo;
+ghost use mathlib.Core.Path.{_≡_};
+ghost use mathlib.Core.Bool.{false};
+ghost use Rattle.output.specs.Run.{isRefused};
+ghost use Rattle.savetnuok.specs.Exported.{thenShape, Opened, Called};
+
+mod numbers;
+mod state_bytes;
+mod words;
+
+// What is answered where the shape is wrong: 1, 2, 3, 7, else 5 at place 8,192.
+fn misshapen(a: Answer) -> Answer
+    ensures { λ r. ⌜ r ≡ thenShape a false ⌝ }
+{
+    match a {
+        Answer::Done => Answer::Refused(Refusal::QueueFull(RecordNo(8192))),
+        Answer::Refused(r) => Answer::Refused(r),
+    }
+}
+
+fn refused(a: Answer) -> bool
+    ensures { λ r. ⌜ r ≡ isRefused a ⌝ }
+{
+    match a {
+        Answer::Done => false,
+        Answer::Refused(_) => true,
+    }
+}
+
+// A fresh engine in the lent state, or refusal 1, 2, 3, 7, or 5 for a state of another length.
+#[no_mangle]
+pub extern "C" fn savetnuok_open(source: &[u8], tree: &[u8], state: &mut [u8]) -> u64
+    ensures { λ r. ⌜ Opened (now (source .entry)) (now (tree .entry)) (now (state .entry)) r (now (state .exit)) ⌝ }
+{
+    let answer = opening(source, tree);
+    if state.len() != SIZE {
+        return packed(misshapen(answer), 0, 0);
+    }
+    if refused(answer) {
+        return packed(answer, 0, 0);
+    }
+    write_state(state, fresh());
+    0
+}
+
+// One call record on the lent state and buffer.
+#[no_mangle]
+pub extern "C" fn savetnuok_call(
+    source: &[u8],
+    tree: &[u8],
+    state: &mut [u8],
+    out: &mut [u8],
+    bytes: &[u8],
+) -> u64
+    ensures { λ r. ⌜ Called (now (source .entry)) (now (tree .entry)) (now (state .entry)) (now (out .entry)) (now (bytes .entry)) r (now (state .exit)) (now (out .exit)) ⌝ }
+{
+    if shaped(state, out.len()) {
+        let len = word(state, 0);
+        let indent = word(state, 4);
+        let step = record(source, tree, out, read_state(state), bytes);
+        let answer = step.answer;
+        if refused(answer) {
+            return packed(answer, len, indent);
+        }
+        let s = step.state;
+        write_state(state, s);
+        return 0;
+    }
+    packed(misshapen(opening(source, tree)), 0, 0)
+}
