@@ -98,6 +98,14 @@ pub fn layout_step() -> Vec<u8> {
     vec![LAYOUT]
 }
 
+/// One step by itself: a run if its bytes are one, else a call record.
+pub fn step(record: &[u8]) -> Step<'_> {
+    match record {
+        [RUN, a, b, c, d] => Step::Run(u32::from_le_bytes([*a, *b, *c, *d])),
+        _ => Step::Call(record),
+    }
+}
+
 /// The steps of a case file with their byte places. A record of an unknown kind
 /// takes all the rest, as its length isn't known; a cut one is the last.
 pub fn script(bytes: &[u8]) -> Vec<(usize, Step<'_>)> {

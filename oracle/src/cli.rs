@@ -20,6 +20,7 @@ const HELP: &str = "oracle COMMAND [--cap N]
   run NODE SRC TREE            one rule on one node, fresh engine
   layout SRC TREE              whole layout
   raw SRC TREE                 whole layout, the output's bytes only
+  trace SRC TREE FILE          whole layout, its calls as records
   gen FAMILY SEED COUNT DIR    cases as files; also `gen edge DIR`, `gen readings DIR`
   pack FAMILY SEED COUNT FILE  the same cases in one file
   verify DIR                   every case again, against its .expect
@@ -29,8 +30,11 @@ const HELP: &str = "oracle COMMAND [--cap N]
   swallow FAMILY SEED COUNT    layouts with text behind a line comment on its line
   record trees FILE            recorded trees
   record calls FILE            recorded histories; `--trim white-space`: as request (i) has it
+  record runs FILE             recorded histories with layout runs; the same option
+  replay calls|runs FILE       a recorded file's steps once more, against what it holds
   bench SRC TREE [ROUNDS]      speed of the whole layout
   cover SEED COUNT             lines of format.rs reached (build with --features trace)
+  cover runs                   lines of the first rules that the recorded runs reach
 Families:";
 
 fn help() -> ! {
@@ -100,7 +104,8 @@ fn on_files(args: &[&str], cap: usize) -> bool {
         ["calls", s, t, steps] => steps_on(s, t, read(steps), cap),
         ["run", n, s, t] => steps_on(s, t, run_step(number(n)), cap),
         ["layout", s, t] => steps_on(s, t, layout_step(), cap),
-        ["raw", s, t] => raw(s, t, cap),
+        ["raw", s, t] => print!("{}", whole_layout(s, t, cap).output),
+        ["trace", s, t, file] => write(file, whole_layout(s, t, cap).trace),
         ["bench", s, t] => speed::bench(&read(s), &read(t), 300),
         ["bench", s, t, rounds] => speed::bench(&read(s), &read(t), number(rounds)),
         _ => return false,
@@ -137,6 +142,11 @@ fn on_families(args: &[&str]) -> bool {
             compare::swallow(family, family_cases(family, seed, count))
         }
         #[cfg(feature = "trace")]
+        ["cover", "runs"] => {
+            record::make_runs();
+            crate::cover::report(Some(crate::cover::FIRST_RULES));
+        }
+        #[cfg(feature = "trace")]
         ["cover", seed, count] => cover(seed, count),
         _ => return false,
     }
@@ -152,6 +162,9 @@ fn on_recorded(args: &[&str], trim: Trim) -> bool {
         }
         ["record", "trees", file] => write(file, record::trees()),
         ["record", "calls", file] => write(file, record::calls(trim)),
+        ["record", "runs", file] => write(file, record::runs(trim)),
+        ["replay", "calls", file] => exit_on(record::replay(&read(file), false)),
+        ["replay", "runs", file] => exit_on(record::replay(&read(file), true)),
         _ => return false,
     }
     true
@@ -180,17 +193,18 @@ fn steps_on(source: &str, tree: &str, steps: Vec<u8>, cap: usize) {
     print!("{}", case::run(&case).expect);
 }
 
-fn raw(source: &str, tree: &str, cap: usize) {
+/// A whole layout of two files; a refusal ends the program.
+fn whole_layout(source: &str, tree: &str, cap: usize) -> case::Outcome {
     let case = Case {
         cap,
         ..Case::new(read(source), read(tree), layout_step())
     };
     let outcome = case::run(&case);
-    print!("{}", outcome.output);
     if let Some(r) = outcome.refusals.first() {
         eprintln!("{r}");
         exit(1);
     }
+    outcome
 }
 
 /// Writes each case's files, and says what they hold.
@@ -296,5 +310,5 @@ fn cover(seed: &str, count: &str) {
     for case in by_hand.chain(readings::all().map(|r| r.case())) {
         case::run(&case);
     }
-    crate::cover::report();
+    crate::cover::report(None);
 }

@@ -9,48 +9,80 @@ use crate::docengine::{DocEngine, Piece, Trim};
 use crate::engine::Engine;
 use crate::gen::{self, Rng};
 use crate::grammar::{Rec, Tree};
+use crate::refusal::Refusal;
 use crate::{opening, opening_again, Diagnostics};
 
-/// The first call on which the two engines part, if any, and how many were made.
+/// The first step on which the two engines part, if any, and how many calls were
+/// compared.
 pub fn first_difference(
     source: &str,
     tree: &Tree,
     cap: usize,
-    calls: &[&[u8]],
+    steps: &[Step<'_>],
     trim: Trim,
 ) -> (Option<usize>, usize) {
     let (mut buffer, mut diagnostics) = (alloc::String::with_cap(cap), Diagnostics);
     let mut rust = Engine::new(source, tree, &mut buffer, &mut diagnostics);
     let mut words = DocEngine::new(source, &tree.records, cap, trim);
-    for (i, record) in calls.iter().enumerate() {
-        let same = rust.call(record) == words.call(record)
-            && rust.state() == words.state
-            && rust.fmt.output() == words.output;
-        if !same {
-            return (Some(i), i + 1);
-        }
-    }
-    (None, calls.len())
+    let mut calls = 0;
+    let parts = |step: &Step<'_>| {
+        rust.fmt.trace = Some(vec![]);
+        let answer = rust.step(*step);
+        let trace = rust.fmt.trace.take().unwrap_or_default();
+        let made = match step {
+            Step::Call(record) => vec![*record],
+            _ => script(&trace).iter().map(|s| call_of(s.1)).collect(),
+        };
+        calls += made.len();
+        as_one(&mut words, &made, answer) != Some(answer)
+            || rust.state() != words.state
+            || rust.fmt.output() != words.output
+    };
+    (steps.iter().position(parts), calls)
 }
 
-/// `compare engines`: a family, call by call, by both rules of trimming. A layout
-/// counts as its calls. Says whether nothing is left to explain.
+/// Calls that are made as one step, which the Rust answered so: by the one that is
+/// refused, and then nothing was done. What a rule refuses by itself, or a run
+/// before its rule, the calls don't show. None: the Rust made calls behind one
+/// that is refused here.
+fn as_one(
+    words: &mut DocEngine<'_>,
+    calls: &[&[u8]],
+    answer: Result<(), Refusal>,
+) -> Option<Result<(), Refusal>> {
+    let before = words.clone();
+    for (i, call) in calls.iter().enumerate() {
+        if let Err(r) = words.call(call) {
+            *words = before;
+            return (i + 1 == calls.len()).then_some(Err(r));
+        }
+    }
+    let by_itself = answer.is_err_and(|r| (8..=11).contains(&r.no));
+    if by_itself {
+        *words = before;
+        return Some(answer);
+    }
+    Some(Ok(()))
+}
+
+/// `compare engines`: a family, step by step, by both rules of trimming. A run and
+/// a layout count as their calls. Says whether nothing is left to explain.
 pub fn engines(family: &str, cases: impl Iterator<Item = Case>) -> bool {
     let (mut histories, mut calls) = (0, [0; 2]);
     let mut different = [0; 2];
     for (i, case) in cases.enumerate() {
-        let Some((tree, trace)) = calls_of(&case) else {
+        let Ok(tree) = opening::open(&case.source, &case.tree) else {
             continue;
         };
         let source = std::str::from_utf8(&case.source).unwrap();
-        let records: Vec<&[u8]> = script(&trace).iter().map(|s| call_of(s.1)).collect();
+        let steps: Vec<Step> = script(&case.steps).iter().map(|s| s.1).collect();
         histories += 1;
         for (n, trim) in [Trim::Three, Trim::WhiteSpace].into_iter().enumerate() {
-            let (at, made) = first_difference(source, &tree, case.cap, &records, trim);
+            let (at, made) = first_difference(source, &tree, case.cap, &steps, trim);
             calls[n] += made;
             different[n] += at.is_some() as usize;
             if let (Some(at), Trim::WhiteSpace) = (at, trim) {
-                println!("case {i} call {at} {:?} parts", records[at]);
+                println!("case {i} step {at} {:?} parts", steps[at]);
             }
         }
     }
@@ -250,7 +282,8 @@ pub fn swallow(family: &str, cases: impl Iterator<Item = Case>) {
         layouts += 1;
         let mut words = DocEngine::new(source, &tree.records, case.cap, Trim::WhiteSpace);
         for (_, step) in script(&trace) {
-            words.call(call_of(step)).expect("a call of a good layout");
+            // a refused call, in a case of calls alone, writes nothing
+            let _ = words.call(call_of(step));
         }
         let found = swallowed(&words.pieces);
         comments += found.iter().any(|f| f.1) as usize;

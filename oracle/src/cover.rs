@@ -44,9 +44,32 @@ mod counting {
         "fmt.lit(",
     ];
 
-    pub fn report() {
+    /// The functions of the first rules; `attributes` and `inner_attributes` serve
+    /// statements and blocks alone.
+    pub const FIRST_RULES: &[&str] = &[
+        "modifiers",
+        "pat",
+        "path",
+        "path_generics",
+        "pat_array",
+        "pat_tuple",
+        "pat_object",
+        "item_struct",
+        "item_enum",
+        "variant",
+        "struct_body",
+        "tuple_body",
+        "item_use",
+        "item_use_path",
+        "item_use_group",
+        "fn_args",
+    ];
+
+    /// Of these functions, or of all.
+    pub fn report(names: Option<&[&str]>) {
         let (mut entered, mut with_calls, mut reached, mut all) = (0, 0, 0, 0);
-        for (name, first, last) in FUNCTIONS {
+        let wanted = |name: &str| names.is_none_or(|n| n.contains(&name));
+        for (name, first, last) in FUNCTIONS.iter().filter(|f| wanted(f.0)) {
             let calls: Vec<usize> = (*first..=*last)
                 .filter(|n| {
                     CALLS
@@ -73,7 +96,7 @@ mod counting {
 }
 
 #[cfg(feature = "trace")]
-pub use counting::{hit, report};
+pub use counting::{hit, report, FIRST_RULES};
 
 /// Counts the line of format.rs that called the stand-in.
 #[cfg(not(feature = "trace"))]

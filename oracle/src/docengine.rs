@@ -34,6 +34,7 @@ impl Piece {
     }
 }
 
+#[derive(Clone)]
 pub struct DocEngine<'a> {
     source: &'a str,
     records: &'a [Rec],

@@ -13,6 +13,11 @@ pub struct Engine<'a> {
     pub fmt: Formatter<'a>,
     tree: &'a Tree,
     finished: bool,
+    /// Whether the bytes behind the output are zero: a refused run or layout makes
+    /// them so, and nothing else touches them.
+    pub zeroed: bool,
+    /// The longest output that a refused step had written.
+    pub most: usize,
 }
 
 impl<'a> Engine<'a> {
@@ -26,6 +31,8 @@ impl<'a> Engine<'a> {
             fmt: Formatter::new(source, tree, buffer, diagnostics),
             tree,
             finished: false,
+            zeroed: false,
+            most: 0,
         }
     }
 
@@ -38,11 +45,13 @@ impl<'a> Engine<'a> {
     }
 
     pub fn step(&mut self, step: Step<'_>) -> Result<(), Refusal> {
-        match step {
-            Step::Call(record) => self.call(record),
+        let answer = match step {
+            Step::Call(record) => return self.call(record),
             Step::Run(node) => self.run(node),
             Step::Layout => self.layout(),
-        }
+        };
+        self.zeroed |= answer.is_err();
+        answer
     }
 
     /// Checks 12, 10, 11, then the call's steps.
@@ -71,13 +80,13 @@ impl<'a> Engine<'a> {
     }
 
     /// Checks 10, 11, 9, then the rule's calls.
-    pub fn run(&mut self, node: u32) -> Result<(), Refusal> {
+    fn run(&mut self, node: u32) -> Result<(), Refusal> {
         self.is_open()?;
         self.has(node)?;
         self.attempt(|f| f.run(node))
     }
 
-    pub fn layout(&mut self) -> Result<(), Refusal> {
+    fn layout(&mut self) -> Result<(), Refusal> {
         self.is_open()?;
         self.attempt(|f| f.layout())?;
         self.finished = true;
@@ -101,6 +110,7 @@ impl<'a> Engine<'a> {
     fn attempt(&mut self, f: impl FnOnce(&mut Formatter<'a>) -> Result<()>) -> Result<(), Refusal> {
         let before = self.fmt.state();
         f(&mut self.fmt).map_err(|e| {
+            self.most = self.most.max(self.fmt.len());
             self.fmt.restore(&before);
             refusal(e)
         })

@@ -100,6 +100,8 @@ const TABLE: &[Row] = &[
         r#"(item_enum kw_enum"enum" ws" " ident"a" ws" " brace_open"{" ws" " line_comment"// c" ws"\n" brace_close"}")"#),
     ("facts", "empty-struct-with-a-line-comment", RUN, ROOM, Gives("struct a { // c}"),
         r#"(item_struct kw_struct"struct" ws" " ident"a" ws" " (struct_body brace_open"{" ws" " line_comment"// c" ws"\n" brace_close"}"))"#),
+    ("facts", "line-comment-before-an-empty-struct", RUN, ROOM, Gives("struct a { // c}"),
+        r#"(item_struct "struct" " " "a" " " "// c" "\n" (struct_body "{" "}"))"#),
     // expressions
     ("5", "empty-group-opened-twice", RUN, ROOM, Gives("x"),
         r#"(expr_empty_group empty_open"" (expr ident"x") empty_open"")"#),

@@ -23,7 +23,8 @@ pub struct State {
 
 impl State {
     /// The words of the recorded files: eight, then four for each waiting comment.
-    pub fn words(&self) -> Vec<u32> {
+    /// The eighth tells of the bytes behind the output: 1 once they are zero.
+    pub fn words(&self, zeroed: bool) -> Vec<u32> {
         let mut words = vec![
             self.len as u32,
             self.lines as u32,
@@ -32,7 +33,7 @@ impl State {
             self.indent as u32,
             self.finished as u32,
             self.queue.len() as u32,
-            0,
+            zeroed as u32,
         ];
         for c in &self.queue {
             words.extend([c.start, c.end, c.before as u32, c.line as u32]);

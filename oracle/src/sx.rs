@@ -1,10 +1,12 @@
 //! Trees by hand: `(kind child ...)` for a composite, `kind"text"` for a leaf, the
-//! kinds by their names in kinds.txt or as two hex digits. The source is the text
-//! of the leaves. In a text: \n \t \r \" \\ \u{..}
+//! kinds by their names in kinds.txt or as two hex digits. A leaf `"text"` has the
+//! kind that a lexer would give the text. The source is the text of the leaves. In
+//! a text: \n \t \r \" \\ \u{..}
 //!
 //! kinds.txt may have a node that is only written whole as a leaf or a composite:
 //! the number decides, so a leaf loses its children and keeps their text.
 use crate::grammar::Rec;
+use crate::kinds::k::IDENT;
 use crate::kinds::KIND_NAME;
 
 pub fn build(text: &str) -> (String, Vec<Rec>) {
@@ -54,14 +56,13 @@ impl Reader {
         let word = |c: &&char| c.is_alphanumeric() || **c == '_';
         let name: String = self.text[self.at..].iter().take_while(word).collect();
         self.at += name.chars().count();
-        match KIND_NAME.iter().position(|n| *n == name) {
-            Some(kind) => kind as u8,
-            None => u8::from_str_radix(&name, 16).unwrap_or_else(|_| panic!("no kind {name}")),
-        }
+        named(&name).unwrap_or_else(|| {
+            u8::from_str_radix(&name, 16).unwrap_or_else(|_| panic!("no kind {name}"))
+        })
     }
 
     fn leaf(&mut self) {
-        let kind = self.kind();
+        let kind = (self.text[self.at] != '"').then(|| self.kind());
         assert_eq!(self.text[self.at], '"', "at {}", self.at);
         self.at += 1;
         let start = self.source.len() as u32;
@@ -71,6 +72,7 @@ impl Reader {
         }
         self.at += 1;
         let end = self.source.len() as u32;
+        let kind = kind.unwrap_or_else(|| lexed(&self.source[start as usize..]));
         self.records.push(Rec::new(kind, start, end, 0));
     }
 
@@ -98,4 +100,44 @@ impl Reader {
         self.at += 1;
         self.text[self.at - 1]
     }
+}
+
+fn named(name: &str) -> Option<u8> {
+    let number = KIND_NAME.iter().position(|n| *n == name)?;
+    Some(number as u8)
+}
+
+const MARKS: &[(&str, &str)] = &[
+    ("(", "paren_open"),
+    (")", "paren_close"),
+    ("{", "brace_open"),
+    ("}", "brace_close"),
+    ("[", "bracket_open"),
+    ("]", "bracket_close"),
+    (",", "comma"),
+    (";", "semi"),
+    (":", "colon"),
+    ("::", "coloncolon"),
+    ("=", "eq"),
+    ("-", "minus"),
+    ("..", "dotdot"),
+    ("<", "lt"),
+    (">", "gt"),
+    ("*", "star"),
+    ("#", "pound"),
+    ("_", "pat_ignore"),
+];
+
+/// The kind of a token, a comment or white space by its text.
+fn lexed(text: &str) -> u8 {
+    let mark = MARKS.iter().find(|m| m.0 == text).map(|m| m.1);
+    let name = match mark {
+        Some(name) => name,
+        None if text.trim().is_empty() => "ws",
+        None if text.starts_with("//") => "line_comment",
+        None if text.starts_with("/*") => "block_comment",
+        None if text.starts_with(|c: char| c.is_ascii_digit()) => "number",
+        None => return named(&format!("kw_{text}")).unwrap_or(IDENT),
+    };
+    named(name).expect("a kind of kinds.txt")
 }

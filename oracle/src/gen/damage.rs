@@ -33,6 +33,23 @@ impl Patient {
         }
     }
 
+    /// Damages one token or composite and leaves the tree good; tells what was done.
+    pub fn damage_in_good_tree(&mut self, rng: &mut Rng) -> &'static str {
+        if self.records.is_empty() {
+            return "none";
+        }
+        let Some(at) = self.find(rng, |_, r| !r.is_trivia()) else {
+            return "none";
+        };
+        match rng.below(8) {
+            0 | 1 => self.another_kind(rng, at),
+            2 | 3 => self.remove(at),
+            4 | 5 => self.double(at),
+            6 => self.insert(rng, at),
+            _ => self.swap_kinds(rng, at),
+        }
+    }
+
     /// Some record that fits, if fifty tries find one.
     fn find(&self, rng: &mut Rng, fits: impl Fn(usize, &Rec) -> bool) -> Option<usize> {
         let mut tries = (0..50).map(|_| rng.below(self.records.len()));
@@ -88,6 +105,27 @@ impl Patient {
             self.records.insert(i + 1, copy);
         }
         "double-leaf"
+    }
+
+    /// With everything below it.
+    fn remove(&mut self, at: usize) -> &'static str {
+        let n = self.records[at].below as usize + 1;
+        self.grow_parents(at, -(n as i64));
+        self.records.drain(at..at + n);
+        "remove"
+    }
+
+    /// With everything below it; the copy is empty, so that it stands in place.
+    fn double(&mut self, at: usize) -> &'static str {
+        let behind = at + 1 + self.records[at].below as usize;
+        let place = self.records[at].end;
+        let mut copy = self.records[at..behind].to_vec();
+        for r in &mut copy {
+            (r.start, r.end) = (place, place);
+        }
+        self.grow_parents(at, copy.len() as i64);
+        self.records.splice(behind..behind, copy);
+        "double"
     }
 
     fn empty_composite(&mut self, rng: &mut Rng) -> &'static str {

@@ -1,7 +1,7 @@
 //! The families of cases by name.
 use super::builder::Force;
 use super::damage::Patient;
-use super::{expr, history, item, small_tree, Builder, Opts, Rng};
+use super::{expr, history, item, rules, small_tree, Builder, Opts, Rng};
 use crate::call::{layout_step, run_step, Call};
 use crate::case::{self, Case};
 use crate::fmt::format::has_rule;
@@ -25,6 +25,10 @@ pub const FAMILIES: &[(&str, &str)] = &[
     ),
     ("runs", "layout runs of single nodes, some calls between"),
     (
+        "rules",
+        "runs on each node of the first rules, good and damaged",
+    ),
+    (
         "damaged",
         "programs with one or two damages, runs and a whole layout",
     ),
@@ -43,6 +47,7 @@ pub fn make(family: &str, seed: u64, i: u64) -> Option<Case> {
         "trim" => layout(rng, true),
         "focus" => focus(rng, i as usize),
         "runs" => runs(rng),
+        "rules" => rules::rules(rng),
         "damaged" => damaged(rng),
         "big" => big(rng),
         _ => return None,

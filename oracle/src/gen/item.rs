@@ -19,7 +19,7 @@ pub(super) const ITEMS: [u8; 9] = [
 
 impl Builder {
     /// A struct's or variant's body. Says whether it is in braces.
-    fn body(&mut self) -> bool {
+    pub(super) fn body(&mut self) -> bool {
         let n = self.rng.below(4);
         match self.rng.below(3) {
             0 => {
@@ -53,14 +53,17 @@ impl Builder {
     }
 
     /// What `item_use_path` walks.
-    fn use_path(&mut self, depth: usize) {
+    pub(super) fn use_path(&mut self, depth: usize) {
         self.ident();
         for _ in 0..self.rng.below(3) {
             self.token(COLONCOLON, "::");
             self.ident();
         }
         match self.rng.below(6) {
-            0..=2 if depth > 0 => self.use_group(depth - 1),
+            0..=2 if depth > 0 => {
+                self.token(COLONCOLON, "::");
+                self.use_group(depth - 1);
+            }
             3 => {
                 self.token(COLONCOLON, "::");
                 self.token(STAR, "*");
@@ -75,8 +78,7 @@ impl Builder {
         }
     }
 
-    fn use_group(&mut self, depth: usize) {
-        self.token(COLONCOLON, "::");
+    pub(super) fn use_group(&mut self, depth: usize) {
         self.node(ITEM_USE_GROUP);
         self.token(BRACE_OPEN, "{");
         let n = self.rng.below(4);
@@ -122,7 +124,7 @@ impl Builder {
 
     /// The records of an item behind its modifiers. Says whether a semicolon is
     /// needed behind it.
-    fn item_content(&mut self, kind: u8, depth: usize) -> bool {
+    pub(super) fn item_content(&mut self, kind: u8, depth: usize) -> bool {
         match kind {
             ITEM_STRUCT => {
                 self.keyword_and_name(KW_STRUCT, "struct");
@@ -174,33 +176,39 @@ impl Builder {
         }
         self.token(BRACE_OPEN, "{");
         let n = self.rng.below(4);
-        self.commas(n, |b| {
-            b.node(VARIANT);
-            if !b.odd() {
-                b.ident();
-            }
-            b.body();
-            b.close();
-        });
+        self.commas(n, |b| b.variant());
         self.token(BRACE_CLOSE, "}");
+    }
+
+    pub(super) fn variant(&mut self) {
+        self.node(VARIANT);
+        if !self.odd() {
+            self.ident();
+        }
+        self.body();
+        self.close();
     }
 
     fn fn_content(&mut self, depth: usize) {
         self.keyword_and_name(KW_FN, "fn");
         if !self.odd() {
-            self.node(FN_ARGS);
-            self.token(PAREN_OPEN, "(");
-            if self.odd() {
-                self.token(COMMA, ",");
-            }
-            let n = self.rng.below(4);
-            self.commas(n, |b| b.pat(1));
-            self.token(PAREN_CLOSE, ")");
-            self.close();
+            self.fn_args(1);
         }
         if !self.odd() {
             self.block(depth);
         }
+    }
+
+    pub(super) fn fn_args(&mut self, depth: usize) {
+        self.node(FN_ARGS);
+        self.token(PAREN_OPEN, "(");
+        if self.odd() {
+            self.token(COMMA, ",");
+        }
+        let n = self.rng.below(4);
+        self.commas(n, |b| b.pat(depth));
+        self.token(PAREN_CLOSE, ")");
+        self.close();
     }
 
     /// A semicolon, nearly always where it is needed, seldom where it isn't.

@@ -9,6 +9,7 @@ mod item;
 mod opening;
 mod pattern;
 mod rng;
+mod rules;
 
 pub use builder::{Builder, Opts};
 pub use family::{make, FAMILIES};

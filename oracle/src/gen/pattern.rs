@@ -16,23 +16,23 @@ impl Builder {
             self.ident();
         }
         if depth > 0 && self.rng.one_in(6) && !self.small() {
+            self.token(COLONCOLON, "::");
             self.path_generics(depth - 1);
+            if self.rng.one_in(4) {
+                self.token(COLONCOLON, "::");
+                self.ident();
+            }
         }
         self.close();
     }
 
-    fn path_generics(&mut self, depth: usize) {
-        self.token(COLONCOLON, "::");
+    pub(super) fn path_generics(&mut self, depth: usize) {
         self.node(PATH_GENERICS);
         self.token(LT, "<");
         let n = self.rng.below(4);
         self.commas(n, |b| b.path(depth));
         self.token(GT, ">");
         self.close();
-        if self.rng.one_in(4) {
-            self.token(COLONCOLON, "::");
-            self.ident();
-        }
     }
 
     fn attribute(&mut self) {
@@ -137,7 +137,7 @@ impl Builder {
         self.close();
     }
 
-    fn pat_array(&mut self, depth: usize) {
+    pub(super) fn pat_array(&mut self, depth: usize) {
         self.node(PAT_ARRAY);
         self.token(BRACKET_OPEN, "[");
         let n = self.rng.below(4);
@@ -146,7 +146,7 @@ impl Builder {
         self.close();
     }
 
-    fn pat_tuple(&mut self, depth: usize) {
+    pub(super) fn pat_tuple(&mut self, depth: usize) {
         self.node(PAT_TUPLE);
         if self.rng.one_in(2) {
             self.path(0);
@@ -166,7 +166,7 @@ impl Builder {
         }
     }
 
-    fn pat_object(&mut self, depth: usize) {
+    pub(super) fn pat_object(&mut self, depth: usize) {
         self.node(PAT_OBJECT);
         self.object_name();
         self.token(BRACE_OPEN, "{");

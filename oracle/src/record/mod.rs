@@ -1,13 +1,21 @@
 //! Recorded cases: files that a program of the port replays with no Rust at hand.
-//! The README gives both formats.
+//! The README gives their formats.
+mod again;
 mod bounds;
 mod calls;
 mod histories;
+mod history;
 mod pieces;
+mod rules;
+mod runs;
 mod sources;
 mod trees;
 
+pub use again::replay;
 pub use calls::record as calls;
+#[cfg(feature = "trace")]
+pub use runs::make as make_runs;
+pub use runs::record as runs;
 pub use trees::record as trees;
 
 /// How many cases of each sort a file holds, in the order of the file.
@@ -25,6 +33,14 @@ impl Sorts {
     fn show(&self) {
         for (sort, n) in &self.0 {
             println!("  {sort:20} {n:5}");
+        }
+    }
+
+    /// With how many of each the other holds.
+    fn show_beside(&self, other: &Sorts) {
+        for (sort, n) in &self.0 {
+            let m = other.0.iter().find(|s| s.0 == *sort).map_or(0, |s| s.1);
+            println!("  {sort:20} {n:5} {m:5}");
         }
     }
 }

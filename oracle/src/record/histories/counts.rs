@@ -4,7 +4,7 @@ use crate::call::Call::{
     self, Comments, FlushWhitespace, Ignore, Indent, Lit, Nl, WriteOwned, WriteRaw, Ws,
 };
 use crate::grammar::Rec;
-use crate::record::calls::History;
+use crate::record::history::History;
 use crate::record::pieces::Pieces;
 
 /// All that a flush may find, and each call that flushes or doesn't.

@@ -6,8 +6,8 @@ mod refused;
 mod releases;
 mod texts;
 
-use super::calls::History;
 use crate::call::Call;
+use crate::record::history::History;
 use crate::sx;
 
 pub fn all() -> Vec<History> {
@@ -43,7 +43,8 @@ fn history(sort: &'static str, tree: &str, calls: &[Call]) -> History {
         source: source.as_str().into(),
         tree: records.into(),
         cap: None,
-        calls: encode(calls),
+        steps: encode(calls),
+        runs: false,
     }
 }
 

@@ -5,7 +5,7 @@ use crate::call::Call::{
     WriteOwned, WriteRaw, Ws,
 };
 use crate::grammar::Rec;
-use crate::record::calls::{needed_for, History};
+use crate::record::history::History;
 use crate::record::pieces::Pieces;
 
 /// What a collecting passes and what stops it, from each record on.
@@ -51,7 +51,8 @@ fn many(n: usize, calls: &[Call]) -> History {
         source: Pieces::from("a").and(Pieces::times(n, "c")),
         tree: records.into(),
         cap: None,
-        calls: encode(calls),
+        steps: encode(calls),
+        runs: false,
     }
 }
 
@@ -112,7 +113,7 @@ pub fn rooms(all: &mut Vec<History>) {
         Comments(1),
         Finish,
     ];
-    for cap in 0..=needed_for(&history("rooms", tree, &calls)) + 1 {
+    for cap in 0..=history("rooms", tree, &calls).needs() + 1 {
         let cap = Some(cap);
         let h = history("rooms", tree, &calls);
         all.push(History { cap, ..h });

@@ -5,7 +5,7 @@ use crate::call::Call::{
     self, Comments, Finish, FlushPrefixComments, FlushWhitespace, Ignore, Indent, Lit, Nl,
     WriteOwned, WriteRaw, Ws,
 };
-use crate::record::calls::History;
+use crate::record::history::History;
 
 pub fn nodes(all: &mut Vec<History>) {
     let tree = r#"03"a" 02"/*b*/" 00"\n" 03"z""#;
@@ -42,9 +42,9 @@ pub fn records(all: &mut Vec<History>) {
     let tree = r#"03"a" 02"/*b*/" 00"\n" 03"z""#;
     for bad in BAD_RECORDS {
         let mut h = history("refused records", tree, &[WriteOwned(0), Ws, Finish]);
-        h.calls.insert(2, bad.to_vec());
+        h.steps.insert(2, bad.to_vec());
         // 12 before 10
-        h.calls.push(bad.to_vec());
+        h.steps.push(bad.to_vec());
         all.push(h);
     }
 }

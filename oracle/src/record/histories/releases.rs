@@ -2,7 +2,7 @@
 //! that is empty and one that isn't.
 use super::{history, last_of, RELEASES};
 use crate::call::Call::{Comments, FlushPrefixComments, Ignore, Indent, Lit, Nl, WriteOwned, Ws};
-use crate::record::calls::History;
+use crate::record::history::History;
 
 /// Document 01's small sessions from P4 on, and the students' errors.
 pub fn sessions(all: &mut Vec<History>) {

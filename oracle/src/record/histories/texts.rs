@@ -2,7 +2,7 @@
 use super::{history, last_of, RELEASES};
 use crate::call::Call::{self, Comments, Nl, WriteOwned, WriteRaw, Ws};
 use crate::gen::{self, Rng};
-use crate::record::calls::History;
+use crate::record::history::History;
 
 /// White_Space that is no newline, and what document 01's trimming keeps.
 const TREES: [&str; 3] = [
@@ -38,7 +38,8 @@ pub fn random(all: &mut Vec<History>) {
             source: source.as_str().into(),
             tree: records.into(),
             cap,
-            calls,
+            steps: calls,
+            runs: false,
         });
     }
 }

@@ -1,0 +1,114 @@
+//! Recorded histories of layout runs on nodes of the first rules, with calls
+//! between them.
+use std::collections::BTreeMap;
+
+use super::history::{Made, Recorded};
+use super::rules;
+use crate::call::Step;
+use crate::docengine::Trim;
+use crate::fmt::format::{has_rule, FIRST_RULES};
+use crate::kinds::KIND_NAME;
+
+/// The file's bytes; prints how many histories of each sort they hold, and how the
+/// runs on each kind end.
+pub fn record(trim: Trim) -> Vec<u8> {
+    let mut recorded = Recorded::default();
+    let mut answers = Answers::default();
+    for history in rules::all() {
+        recorded.add(&history, trim, &mut |made| answers.note(made));
+    }
+    let bytes = recorded.file();
+    println!(
+        "{} histories, {} steps, {} of them runs, {} bytes, {} left out for their trimming",
+        recorded.histories,
+        recorded.steps,
+        answers.runs(),
+        bytes.len(),
+        recorded.left_out
+    );
+    println!("  histories of a sort, and those with a refused step:");
+    recorded.sorts.show_beside(&recorded.refused);
+    answers.show();
+    let largest = &recorded.largest;
+    println!(
+        "  at most: source {}, tree {}, buffer {}, step {}",
+        largest.source, largest.tree, largest.cap, largest.step
+    );
+    assert!(bytes.len() < 410_000, "the file grew too large");
+    bytes
+}
+
+/// Makes all runs, for counting the lines that they reach.
+#[cfg(feature = "trace")]
+pub fn make() {
+    let mut recorded = Recorded::default();
+    for history in rules::all() {
+        recorded.add(&history, Trim::WhiteSpace, &mut |_| ());
+    }
+}
+
+/// How many runs on each kind were answered so; 0 is a run that was done.
+#[derive(Default)]
+struct Answers {
+    by_kind: BTreeMap<&'static str, BTreeMap<u64, usize>>,
+}
+
+const NUMBERS: [u64; 8] = [0, 4, 5, 6, 8, 9, 10, 11];
+const WITHOUT: &str = "a kind without a rule";
+const MISSING: &str = "no such node";
+
+impl Answers {
+    fn note(&mut self, made: &Made) {
+        let Step::Run(node) = made.step else {
+            return;
+        };
+        let name = match made.tree.records.get(node as usize) {
+            None => MISSING,
+            Some(r) if FIRST_RULES.contains(&r.rust_kind()) => KIND_NAME[r.kind as usize],
+            Some(r) => {
+                assert!(!has_rule(r.rust_kind()), "a run on a rule that comes later");
+                WITHOUT
+            }
+        };
+        let answers = self.by_kind.entry(name).or_default();
+        *answers.entry(made.answer >> 32).or_default() += 1;
+    }
+
+    fn of(&self, name: &str, number: u64) -> usize {
+        let answers = self.by_kind.get(name);
+        let n = answers.and_then(|a| a.get(&number));
+        n.copied().unwrap_or(0)
+    }
+
+    fn runs(&self) -> usize {
+        self.by_kind.values().flat_map(|a| a.values()).sum()
+    }
+
+    fn show(&self) {
+        let numbers = NUMBERS.map(|n| format!("{n:5}"));
+        println!("  runs that were done (0) and refused:");
+        println!("  {:22} {}", "", numbers.concat());
+        for name in self.by_kind.keys() {
+            let counts = NUMBERS.map(|n| format!("{:5}", self.of(name, n)));
+            println!("  {name:22} {}", counts.concat());
+        }
+        self.check();
+    }
+
+    /// Every rule is done, and refused: for want of room, by the queue, by itself,
+    /// by a finished engine; at the last indentation where it indents.
+    fn check(&self) {
+        let mut rules: Vec<&str> = self.by_kind.keys().copied().collect();
+        rules.retain(|n| *n != WITHOUT && *n != MISSING);
+        assert_eq!(rules.len(), FIRST_RULES.len());
+        for name in rules {
+            for number in [0, 4, 5, 8, 10] {
+                let n = self.of(name, number);
+                assert!(n > 0, "{name} is never answered {number}");
+            }
+        }
+        for name in ["struct_body", "variant", "item_struct", "item_enum"] {
+            assert!(self.of(name, 6) > 0, "{name} is never answered 6");
+        }
+    }
+}
