@@ -1,0 +1,46 @@
+-- `bench::history::replay` meets its contract. The invariant: from here on is as much as from the start. Assumes nothing.
+use Prim.Native.Nat.{_-_}
+use lib.ListN.{length}
+use Rattle.output.specs.View.{scriptOf, resultOf}
+use Rattle.bench.proofs.HistoryLaws.{Going, few-bytes, going-end, going-more, going-none, some-bytes}
+use borrow.Author.Needs.{needs}
+use native.Mathlib.Omega.{arith}
+use Rattle.bench.proofs.history.replay.Statement.{statement}
+use Rattle.bench.proofs.history.replay.Tie as tie
+
+abbrev Inv-loop : tie.InvT-loop
+Inv-loop src table queue₀ out₀ records r₀ at₀ queue out r at = Going (scriptOf src table) records (resultOf r₀ queue₀ out₀) (resultOf r queue out) at
+
+abbrev μ-loop : tie.MeasureT-loop
+μ-loop src table queue₀ out₀ records r₀ at₀ queue out r at = length records - at
+
+add-at : tie.Need-add-at Inv-loop μ-loop
+add-at c = omega (arith, few-bytes (c .before .before .before .before .before .before .before .before .before .before .before .before .before .args .records .now) (c .before .before .before .before .before .before .before .before .loop .at) (c .before .before .before .before .before .before .before .loop-test .taken) (c .before .before .before .before .before .before .record-at .ensures))
+
+loop-less : tie.Need-loop-less Inv-loop μ-loop
+loop-less c = omega (arith, some-bytes (c .before .before .before .before .before .before .before .before .before .before .before .before .before .args .records .now) (c .before .before .before .before .before .before .before .before .loop .at) (c .before .before .before .before .before .before .before .loop-test .taken) (c .before .before .before .before .before .before .record-at .ensures))
+
+loop-again : tie.Need-loop-again Inv-loop μ-loop
+loop-again c = going-more (c .before .before .before .decode .result) (c .before .before .before .before .before .before .before .before .loop .inv) (c .before .before .before .before .before .before .before .loop-test .taken) (c .before .before .before .before .before .before .record-at .ensures) (c .before .before .before .decode .ensures) (c .before .before .asked .ensures)
+
+same-length : tie.Need-same-length Inv-loop μ-loop
+same-length c = c .before .loop .inv .long
+
+returns : tie.Need-returns Inv-loop μ-loop
+returns c = going-end (c .before .loop .inv) (c .loop-test .left)
+
+pub replay-spec : {M : Type 1} → statement M
+replay-spec =
+    tie.close
+    (tie.spec
+    Inv-loop
+    μ-loop
+    (λ c. going-none)
+    (λ c κs. search needs)
+    (λ c κs. search needs)
+    (λ c κs. search needs)
+    add-at
+    loop-less
+    loop-again
+    same-length
+    returns)

@@ -1,0 +1,65 @@
+// What the measurements call: the checks, the count, opening and a list of calls, each without the work of a public function around it.
+pub mod history;
+pub mod pack;
+
+use crate::history::replay;
+use crate::pack::finding;
+use crate::pack::pack;
+use crate::pack::reached;
+use meaning::answer::Answer;
+use output::state::fresh;
+use output::state::started;
+use tree::table::decode;
+use tree::table::first;
+ghost use mathlib.Core.Path.{_≡_};
+ghost use Rattle.text.specs.Utf8.{formed};
+ghost use Rattle.text.specs.Chars.{counted};
+ghost use Rattle.meaning.specs.Opening.{opening};
+ghost use Rattle.meaning.specs.Numbers.{seen};
+ghost use Rattle.bench.specs.Packed.{packed, found};
+ghost use Rattle.bench.specs.History.{Replayed};
+
+// The check of UTF-8.
+#[no_mangle]
+pub extern "C" fn bench_utf8(s: &[u8]) -> u64
+    ensures { λ r. ⌜ r ≡ found (formed (now (s .entry))) ⌝ }
+{
+    finding(text::utf8::check(s))
+}
+
+// The count of characters outside White_Space.
+#[no_mangle]
+pub extern "C" fn bench_count(s: &[u8], limit: u32) -> u64
+    ensures { λ r. ⌜ r ≡ counted limit (now (s .entry)) ⌝ }
+{
+    text::chars::count(s, limit)
+}
+
+// Opening: the source and the tree are checked, and no state is made.
+#[no_mangle]
+pub extern "C" fn bench_open(source: &[u8], tree: &[u8]) -> u64
+    ensures { λ r. ⌜ r ≡ packed (seen (opening (now (source .entry)) (now (tree .entry)))) ⌝ }
+{
+    pack(output::checks::opening(source, tree))
+}
+
+// Call records one after another on a fresh engine, over a tree that is decoded once; nothing that is lent is checked.
+#[no_mangle]
+pub extern "C" fn bench_calls(source: &[u8], tree: &[u8], out: &mut [u8], records: &[u8]) -> u64
+    ensures { λ r. ⌜ Replayed (now (source .entry)) (now (tree .entry)) (now (records .entry)) (now (out .entry)) r (now (out .exit)) ⌝ }
+{
+    let mut words = [0u32; 32768];
+    let n = decode(tree, &mut words);
+    let s = fresh();
+    let now = s.now;
+    let mut queue = s.queue;
+    let run = replay(
+        source,
+        first(&words, n),
+        &mut queue,
+        out,
+        started(now, Answer::Done),
+        records,
+    );
+    reached(run)
+}
