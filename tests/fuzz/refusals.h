@@ -1,0 +1,16 @@
+/* Which refusal a call meets before its own steps. */
+#ifndef REFUSALS_H
+#define REFUSALS_H
+
+#include "check.h"
+
+/* Of what is lent over a good source and tree: the answer, or 0 where the call's own steps decide. */
+uint64_t refusal_before_its_steps(const struct lent *l);
+
+/* The new indent, or -1 where it would leave its bounds. */
+int indent_after(uint32_t indent, uint8_t by);
+
+/* Does a character begin at this place, or the source end? */
+int on_boundary(struct bytes source, uint32_t place);
+
+#endif

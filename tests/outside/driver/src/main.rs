@@ -1,0 +1,291 @@
+//! Random histories through the exported functions, held against the oracle: every
+//! answer, every byte of state and output, and every byte that must not change.
+mod area;
+mod bounds;
+mod changed;
+mod exported;
+mod faults;
+mod histories;
+mod huge;
+mod lent;
+mod noise;
+mod reference;
+mod sample;
+mod session;
+mod tally;
+
+use std::path::PathBuf;
+use std::process::exit;
+use std::time::{Instant, SystemTime, UNIX_EPOCH};
+use std::{env, thread};
+
+use oracle::gen::Rng;
+
+use exported::{Library, SAVETNUOK};
+use faults::Fault;
+use session::{Desk, Differs, Session};
+use tally::Tally;
+
+const HELP: &str = "outside [--calls N] [--seed N] [--save FOLDER] [--only GROUP:NUMBER] [--trace]
+outside faults [--calls N] [--seed N]     each fault of a stand-in must be found
+outside sample FOLDER COUNT [--seed N]    histories with their answers, as files";
+
+/// Groups of histories; of a round of histories each gets so many.
+const GROUPS: [(&str, usize); 14] = [
+    ("calls", 8),
+    ("trimcalls", 2),
+    ("layout", 4),
+    ("trim", 1),
+    ("focus", 4),
+    ("runs", 2),
+    ("damaged", 6),
+    ("openings", 12),
+    ("rooms", 2),
+    ("queues", 3),
+    ("lent", 10),
+    ("noise", 12),
+    ("sizes", 0),
+    ("words", 0),
+];
+/// One history in so many is of a tree with nearly 8,192 records.
+const BIG: usize = 4_000;
+/// A run stops at so many differences, a search for a fault at the first.
+const MOST_DIFFERENCES: usize = 10;
+
+struct Options {
+    calls: u64,
+    seed: u64,
+    save: Option<PathBuf>,
+    only: Option<(String, u64)>,
+    trace: bool,
+}
+
+fn help() -> ! {
+    eprintln!("{HELP}");
+    exit(2)
+}
+
+fn number(text: &str) -> u64 {
+    text.parse().unwrap_or_else(|_| help())
+}
+
+fn options(args: &mut Vec<String>) -> Options {
+    let now = SystemTime::now()
+        .duration_since(UNIX_EPOCH)
+        .expect("a clock");
+    let mut options = Options {
+        calls: 1_000_000,
+        seed: now.as_nanos() as u64 % 1_000_000_000,
+        save: None,
+        only: None,
+        trace: false,
+    };
+    let mut rest = std::mem::take(args).into_iter();
+    while let Some(word) = rest.next() {
+        let mut value = || rest.next().unwrap_or_else(|| help());
+        match &word[..] {
+            "--calls" => options.calls = number(&value()),
+            "--seed" => options.seed = number(&value()),
+            "--save" => options.save = Some(value().into()),
+            "--only" => {
+                let value = value();
+                let (group, n) = value.split_once(':').unwrap_or_else(|| help());
+                options.only = Some((group.into(), number(n)));
+            }
+            "--trace" => options.trace = true,
+            word if word.starts_with("--") => help(),
+            _ => args.push(word),
+        }
+    }
+    options
+}
+
+/// One history; the same group, seed and number give the same one.
+fn history(
+    library: Library,
+    desk: &mut Desk,
+    tally: &mut Tally,
+    options: &Options,
+    (group, i): (&'static str, u64),
+) {
+    if options.trace {
+        eprintln!("--seed {} --only {group}:{i}", options.seed);
+    }
+    let mark = group.bytes().fold(options.seed, |n, b| {
+        n.wrapping_mul(31).wrapping_add(b as u64)
+    });
+    let rng = &mut Rng::new(mark.wrapping_mul(1_000_003).wrapping_add(i));
+    let mut s = Session::new(library, desk, tally, options.save.as_ref(), (group, i));
+    // a difference stands in the tally
+    let _: Result<(), Differs> = match group {
+        "calls" | "trimcalls" => histories::calls(&mut s, rng, group, options.seed, i),
+        "layout" | "trim" | "focus" | "runs" | "damaged" => {
+            histories::traces(&mut s, rng, group, options.seed, i)
+        }
+        "big" => histories::big(&mut s, rng, options.seed, i),
+        "openings" => histories::openings(&mut s, rng, i),
+        "rooms" => histories::rooms(&mut s, rng, options.seed, i),
+        "queues" => bounds::queues(&mut s, rng),
+        "lent" => changed::lent(&mut s, rng),
+        "noise" => noise::noise(&mut s, rng),
+        "sizes" => bounds::all_sizes(&mut s, rng),
+        _ => bounds::all_words(&mut s),
+    };
+    s.done();
+}
+
+/// Rounds of all groups, until so many calls were made.
+fn rounds(library: Library, options: &Options, calls: u64, most: usize) -> Tally {
+    let (mut desk, mut tally) = (Desk::new(), Tally::default());
+    for group in ["sizes", "words"] {
+        history(library, &mut desk, &mut tally, options, (group, 0));
+    }
+    // a round, as numbers of groups
+    let round: Vec<usize> = GROUPS
+        .iter()
+        .enumerate()
+        .flat_map(|(at, (_, times))| vec![at; *times])
+        .collect();
+    let mut numbers = [0; GROUPS.len()];
+    for made in 0.. {
+        if tally.calls >= calls || tally.differences.len() >= most {
+            break;
+        }
+        let at = round[made % round.len()];
+        history(
+            library,
+            &mut desk,
+            &mut tally,
+            options,
+            (GROUPS[at].0, numbers[at]),
+        );
+        numbers[at] += 1;
+        if made % BIG == BIG / 2 {
+            history(
+                library,
+                &mut desk,
+                &mut tally,
+                options,
+                ("big", (made / BIG) as u64),
+            );
+        }
+    }
+    tally
+}
+
+/// Four threads at once: the library keeps nothing between calls or beside them.
+fn threads(library: Library, options: &Options) -> Tally {
+    let parts = thread::scope(|scope| {
+        let one = |n: u64| {
+            let options = Options {
+                seed: options.seed.wrapping_add(7_777 * (n + 1)),
+                save: options.save.clone(),
+                only: None,
+                ..*options
+            };
+            move || rounds(library, &options, options.calls / 40, MOST_DIFFERENCES)
+        };
+        let all: Vec<_> = (0..4).map(|n| scope.spawn(one(n))).collect();
+        all.into_iter()
+            .map(|t| t.join().expect("a thread that ends"))
+            .collect::<Vec<_>>()
+    });
+    let mut sum = Tally::default();
+    parts.into_iter().for_each(|part| sum.add(part));
+    sum
+}
+
+fn only(options: &Options, group: &str, number: u64) -> Tally {
+    let (mut desk, mut tally) = (Desk::new(), Tally::default());
+    let names = GROUPS.iter().map(|g| g.0).chain(["big"]);
+    let name = names
+        .into_iter()
+        .find(|n| *n == group)
+        .unwrap_or_else(|| help());
+    history(SAVETNUOK, &mut desk, &mut tally, options, (name, number));
+    tally
+}
+
+fn compare(options: &Options) -> bool {
+    let begun = Instant::now();
+    println!("random histories, --seed {}", options.seed);
+    if let Some((group, number)) = &options.only {
+        let tally = only(options, group, *number);
+        tally
+            .differences
+            .iter()
+            .for_each(|d| println!("DIFFERS {d}"));
+        println!(
+            "  {} calls, {} differ",
+            tally.calls,
+            tally.differences.len()
+        );
+        return tally.differences.is_empty();
+    }
+    let mut tally = rounds(SAVETNUOK, options, options.calls, MOST_DIFFERENCES);
+    huge::huge(SAVETNUOK, &mut tally);
+    let alone = tally.calls;
+    tally.add(threads(SAVETNUOK, options));
+    tally.show();
+    for difference in tally.differences.iter().take(MOST_DIFFERENCES) {
+        println!("DIFFERS {difference}");
+    }
+    let missed = tally.never_reached();
+    missed
+        .iter()
+        .for_each(|what| println!("NEVER REACHED {what}"));
+    println!(
+        "  {} openings and {} calls compared, {} of them in four threads at once, {} beside rune's output.rs; {} differ ({} s)",
+        tally.opens,
+        tally.calls,
+        tally.calls - alone,
+        tally.with_rust,
+        tally.differences.len(),
+        begun.elapsed().as_secs()
+    );
+    tally.differences.is_empty() && missed.is_empty()
+}
+
+/// Each fault must be found, and the stand-in without one must pass.
+fn find_faults(options: &Options) -> bool {
+    println!(
+        "a stand-in with one fault at a time, --seed {}",
+        options.seed
+    );
+    let mut good = true;
+    for fault in faults::ALL.iter().copied() {
+        let options = Options {
+            save: None,
+            only: None,
+            ..*options
+        };
+        // without a fault nothing ends the search
+        let calls = options.calls / if fault == Fault::None { 10 } else { 1 };
+        let tally = rounds(faults::with(fault), &options, calls, 1);
+        let first = tally.differences.first();
+        good &= first.is_some() == (fault != Fault::None);
+        let what = first.map_or("nothing found".into(), |d| d.clone());
+        println!(
+            "  {:<34} {what} ({} calls)",
+            format!("{fault:?}"),
+            tally.calls
+        );
+    }
+    good
+}
+
+fn main() {
+    let mut args: Vec<String> = env::args().skip(1).collect();
+    let options = options(&mut args);
+    let args: Vec<&str> = args.iter().map(|a| &a[..]).collect();
+    let good = match args[..] {
+        [] => compare(&options),
+        ["faults"] => find_faults(&options),
+        ["sample", folder, count] => {
+            sample::write(folder.as_ref(), options.seed, number(count));
+            true
+        }
+        _ => help(),
+    };
+    exit(!good as i32);
+}

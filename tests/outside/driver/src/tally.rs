@@ -1,0 +1,177 @@
+//! What was run, what it reached, and what differed.
+use std::collections::BTreeMap;
+
+use oracle::call::Call;
+
+use crate::lent::{self, STATE};
+use crate::reference::{By, Want};
+
+const LITERALS: [&str; 8] = [
+    "lit {}", "lit ||", "lit ()", "lit {", "lit }", "lit ,", "lit ;", "lit :",
+];
+const HINTS: [&str; 4] = [
+    "comments Line",
+    "comments Prefix",
+    "comments Suffix",
+    "comments Infix",
+];
+const FLUSHES: [&str; 2] = ["flush_whitespace 0", "flush_whitespace 1"];
+
+/// Done calls, each at least once with something let out or written.
+const CALLS: [&str; 8] = [
+    "write_owned",
+    "write_raw",
+    "ignore",
+    "indent",
+    "nl",
+    "ws",
+    "flush_prefix_comments",
+    "finish",
+];
+const OPENINGS: [&str; 6] = [
+    "open done",
+    "open 1",
+    "open 2",
+    "open 3",
+    "open 5",
+    "open 7",
+];
+const REFUSALS: [&str; 13] = [
+    "call 1", "call 2", "call 3", "call 7", "lent 4", "lent 5", "lent 6", "call 4", "call 5",
+    "call 6", "call 10", "call 11", "call 12",
+];
+const QUEUES: [&str; 5] = ["0 wait", "1 waits", "255 wait", "256 wait", "257th refused"];
+
+/// Everything that a run must reach.
+fn required() -> impl Iterator<Item = &'static str> {
+    let calls = CALLS
+        .into_iter()
+        .chain(LITERALS)
+        .chain(HINTS)
+        .chain(FLUSHES);
+    calls.chain(OPENINGS).chain(REFUSALS).chain(QUEUES)
+}
+
+#[derive(Default)]
+pub struct Tally {
+    pub opens: u64,
+    pub calls: u64,
+    /// of these calls, compared with rune's own output.rs too
+    pub with_rust: u64,
+    groups: BTreeMap<&'static str, (u64, u64)>,
+    reached: BTreeMap<&'static str, u64>,
+    pub differences: Vec<String>,
+}
+
+impl Tally {
+    fn reach(&mut self, what: &'static str) {
+        *self.reached.entry(what).or_default() += 1;
+    }
+
+    pub fn history(&mut self, group: &'static str, calls: u64) {
+        let (histories, made) = self.groups.entry(group).or_default();
+        *histories += 1;
+        *made += calls;
+    }
+
+    pub fn opened(&mut self, want: &Want) {
+        self.opens += 1;
+        self.reach(match want.answer >> 32 {
+            0 => OPENINGS[0],
+            1 => OPENINGS[1],
+            2 => OPENINGS[2],
+            3 => OPENINGS[3],
+            5 => OPENINGS[4],
+            _ => OPENINGS[5],
+        });
+    }
+
+    /// A call on a state that had so many waiting.
+    pub fn called(&mut self, record: &[u8], waited: usize, want: &Want) {
+        self.calls += 1;
+        if want.answer != 0 {
+            self.reach(refusal(want));
+            if want.by == By::Call && want.answer >> 32 == 5 && waited == 256 {
+                self.reach(QUEUES[4]);
+            }
+            return;
+        }
+        let state = want.state.as_ref().expect("a success leaves a state");
+        debug_assert_eq!(state.len(), STATE);
+        match lent::word(state, lent::COUNT) {
+            0 => self.reach(QUEUES[0]),
+            1 => self.reach(QUEUES[1]),
+            255 => self.reach(QUEUES[2]),
+            256 => self.reach(QUEUES[3]),
+            _ => {}
+        }
+        let call = Call::decode(record).expect("a good record");
+        // a hint that lets nothing out shows little
+        let idle = want.written.is_empty() && matches!(call, Call::Comments(_) | Call::Finish);
+        if !idle {
+            self.reach(done(call));
+        }
+    }
+
+    pub fn add(&mut self, other: Tally) {
+        self.opens += other.opens;
+        self.calls += other.calls;
+        self.with_rust += other.with_rust;
+        for (group, (histories, made)) in other.groups {
+            let sum = self.groups.entry(group).or_default();
+            *sum = (sum.0 + histories, sum.1 + made);
+        }
+        for (what, n) in other.reached {
+            *self.reached.entry(what).or_default() += n;
+        }
+        self.differences.extend(other.differences);
+    }
+
+    pub fn never_reached(&self) -> Vec<&'static str> {
+        required()
+            .filter(|w| !self.reached.contains_key(w))
+            .collect()
+    }
+
+    pub fn show(&self) {
+        println!("  group            histories      calls");
+        for (group, (histories, made)) in &self.groups {
+            println!("  {group:14} {histories:11} {made:10}");
+        }
+        println!("  reached:");
+        let all: Vec<&str> = required().collect();
+        for line in all.chunks(6) {
+            let part = |what: &&str| format!("{what} {}", self.reached.get(what).unwrap_or(&0));
+            println!(
+                "    {}",
+                line.iter().map(part).collect::<Vec<_>>().join(" · ")
+            );
+        }
+    }
+}
+
+fn refusal(want: &Want) -> &'static str {
+    let sort = if want.by == By::Lent { "lent" } else { "call" };
+    let number = (want.answer >> 32).to_string();
+    let is_it = |name: &&str| name.split_once(' ') == Some((sort, &number[..]));
+    REFUSALS
+        .into_iter()
+        .find(is_it)
+        .expect("a refusal of the list")
+}
+
+fn done(call: Call) -> &'static str {
+    match call {
+        Call::WriteOwned(_) => CALLS[0],
+        Call::WriteRaw(_) => CALLS[1],
+        Call::Ignore(_) => CALLS[2],
+        Call::Indent(_) => CALLS[3],
+        Call::Nl(_) => CALLS[4],
+        Call::Ws => CALLS[5],
+        Call::FlushPrefixComments => CALLS[6],
+        Call::Finish => CALLS[7],
+        Call::Lit(n) => LITERALS[n as usize],
+        Call::Comments(n) => HINTS[n as usize],
+        Call::FlushWhitespace(n) => FLUSHES[n as usize],
+    }
+}
