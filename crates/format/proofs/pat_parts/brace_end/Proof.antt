@@ -1,0 +1,24 @@
+-- `format::pat_parts::brace_end` meets its contract. Assumes nothing.
+use Rattle.tree.specs.Table.{treeOf}
+use Rattle.format.specs.Stream.{streamOf}
+use Rattle.format.specs.Remaining.{fmt}
+use Rattle.format.specs.declared.remaining.Mark.the-variants.{CloseBrace}
+use Rattle.format.specs.Pattern.{braceEnd}
+use Rattle.format.proofs.PatLaws.{rest-then}
+use borrow.Author.Needs.{needs}
+use Rattle.format.proofs.pat_parts.brace_end.Statement.{statement}
+use Rattle.format.proofs.pat_parts.brace_end.Tie as tie
+
+returns : tie.Need-returns
+unfolding braceEnd
+returns c = let rs = treeOf (c .before .before .before .before .before .before .before .before .before .before .args .table .now) in
+    rest-then rs CloseBrace (streamOf rs (c .before .before .before .before .before .before .before .before .before .before .args .p)) fmt (c .before .before .before .before .before .before .before .before .before .before .args .queue .now) (c .before .before .before .before .before .before .before .before .before .before .args .out .now) (c .before .before .before .before .before .before .take-remaining .ensures) (c .before .before .fmt .ensures)
+
+pub brace-end-spec : {M : Type 1} → statement M
+brace-end-spec =
+    tie.close
+    (tie.spec
+    (λ c κs. search needs)
+    (λ c κs. search needs)
+    (λ c. search needs)
+    returns)

@@ -1,0 +1,23 @@
+-- `format::remaining::write_only_if` meets its contract. Assumes nothing.
+use Rattle.format.specs.Remaining.{fmt}
+use Rattle.format.proofs.RestLaws.{only-yes, only-no}
+use borrow.Author.Needs.{needs}
+use Rattle.format.proofs.remaining.write_only_if.Statement.{statement}
+use Rattle.format.proofs.remaining.write_only_if.Tie as tie
+
+returns : tie.Need-returns
+returns c = only-yes (c .before .before .before .before .before .before .before .before .before .args .wanted) (c .before .before .before .before .before .before .before .before .before .args .token) (c .before .before .before .before .before .if1 .taken) (c .before .before .fmt .ensures)
+
+returns-2 : tie.Need-returns-2
+returns-2 c = only-no (c .before .before .before .before .before .before .before .before .before .args .wanted) (c .before .before .before .before .before .before .before .before .before .args .token) (c .before .before .before .before .before .if1 .left) (c .before .before .pass .ensures)
+
+pub write-only-if-spec : {M : Type 1} → statement M
+write-only-if-spec =
+    tie.close
+    (tie.spec
+    (λ c κs. search needs)
+    (λ c. search needs)
+    returns
+    (λ c κs. search needs)
+    (λ c. search needs)
+    returns-2)

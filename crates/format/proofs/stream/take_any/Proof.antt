@@ -1,0 +1,15 @@
+-- `format::stream::take_any` meets its contract. Assumes nothing.
+use Rattle.format.proofs.StreamLaws.{took-any}
+use borrow.Author.Needs.{needs}
+use Rattle.format.proofs.stream.take_any.Statement.{statement}
+use Rattle.format.proofs.stream.take_any.Tie as tie
+
+returns : tie.Need-returns
+returns c = took-any _ (c .before .before .before .before .args .p) (c .before .before .take .ensures)
+
+pub take-any-spec : {M : Type 1} → statement M
+take-any-spec =
+    tie.close
+    (tie.spec
+    (λ c κs. search needs)
+    returns)
