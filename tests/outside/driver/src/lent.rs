@@ -34,7 +34,7 @@ pub fn of_comment(k: usize, number: usize) -> usize {
 
 /// The one form in which a state is handed back.
 pub fn encode(state: &State) -> Vec<u8> {
-    let mut bytes: Vec<u8> = state.words().iter().flat_map(|w| w.to_le_bytes()).collect();
+    let mut bytes: Vec<u8> = state.words(false).iter().flat_map(|w| w.to_le_bytes()).collect();
     bytes.resize(STATE, 0);
     bytes
 }
