@@ -5,6 +5,7 @@ use mathlib.Core.List.{List, [], _∷_}
 use Prim.Native.Nat.{ℕ, zero, suc, pred, _+_, _-_, _*_, _%_, _≤_, _<_, min}
 use native.Mathlib.Nat.{add-zero, min-eq-left, min-eq-right}
 use native.Mathlib.Omega.{arith}
+use mir.Val.{boolByte}
 use lib.Dec.{leb, ltb, eqb, eqb·suc-zero, eqb·suc-suc}
 use lib.ListN.{length, drop, getD, drop-of-length-le}
 use lib.Seq.{drop-cons, drop-drop, getD-drop}
@@ -91,6 +92,10 @@ pub record Counting (t : List ℕ) (limit n i : ℕ) : Type 0 where
   pub below : n ≤ limit
   pub whole : n + dark (charsFrom 0 (drop i t)) ≡ dark (chars t)
 
+pub at-most-one : (w : Bool) → boolByte w ≤ 1
+at-most-one true = omega arith
+at-most-one false = omega arith
+
 module _ {t : List ℕ} {limit n i : ℕ} {k : Char} (c : Counting t limit n i) (h : i < length t) (e : k ≡ charAt (drop i t)) where
   pub next-within : i + k .len ≤ length t
   next-within = rw e (step-fits t i h)
@@ -98,20 +103,21 @@ module _ {t : List ℕ} {limit n i : ℕ} {k : Char} (c : Counting t limit n i) 
   pub next-moves : 0 < k .len
   next-moves = rw e (step-pos (charLen (drop i t)))
 
-  -- one character more
-  pass : (w : Bool) → w ≡ isWhite (k .code) → dark (charsFrom 0 (drop i t)) ≡ cond w (dark (charsFrom 0 (drop (i + k .len) t))) (suc (dark (charsFrom 0 (drop (i + k .len) t))))
+  -- one character more; w: it has White_Space
+  pass : {w : Bool} → w ≡ isWhite (k .code) → dark (charsFrom 0 (drop i t)) ≡ 1 - boolByte w + dark (charsFrom 0 (drop (i + k .len) t))
   unfolding dark
-  pass w f = rw (chars-next t i h, f, e)
+  pass f = rw (chars-next t i h, f, e) (go (isWhite (charAt (drop i t) .code)) (dark (charsFrom 0 (drop (i + charAt (drop i t) .len) t))))
+    where
+      go : (w : Bool) (m : ℕ) → cond w m (suc m) ≡ 1 - boolByte w + m
+      go true m = omega arith
+      go false m = omega arith
 
-  pub count-white : true ≡ isWhite (k .code) → Counting t limit n (i + k .len)
-  count-white f = record { within = next-within; below = c .below; whole = ap (n +_) (sym (pass true f)) ∙ c .whole }
+  pub count-next : {w : Bool} → w ≡ isWhite (k .code) → (n + (1 - boolByte w) ≡ limit + 1 → ⊥) → Counting t limit (n + (1 - boolByte w)) (i + k .len)
+  count-next f ne = record { within = next-within; below = omega (arith, c .below); whole = omega (arith, c .whole, pass f) }
 
-  pub count-dark : false ≡ isWhite (k .code) → (n + 1 ≡ limit + 1 → ⊥) → Counting t limit (n + 1) (i + k .len)
-  count-dark f ne = record { within = next-within; below = omega (arith, c .below); whole = omega (arith, c .whole, pass false f) }
-
-  pub count-over : false ≡ isWhite (k .code) → n + 1 ≡ limit + 1 → n + 1 ≡ counted limit t
+  pub count-over : {w : Bool} → w ≡ isWhite (k .code) → n + (1 - boolByte w) ≡ limit + 1 → n + (1 - boolByte w) ≡ counted limit t
   unfolding counted
-  count-over f l = let q : n + 1 ≡ suc limit = omega arith in q ∙ sym (min-eq-left (omega (arith, c .whole, pass false f)))
+  count-over {w} f l = let q : n + (1 - boolByte w) ≡ suc limit = omega arith in q ∙ sym (min-eq-left (omega (arith, c .whole, pass f)))
 
 pub count-none : (t : List ℕ) (limit : ℕ) → Counting t limit 0 0
 count-none t limit = record { within = omega arith; below = omega arith; whole = omega arith }

@@ -1,6 +1,5 @@
 -- A table of range pairs: its test at a number is membership in the list that the pairs spread to. So that a table is right is
--- one equation between lists, which antt computes. In ascending order, the first range that ends at a number or above it decides.
--- Assumes nothing.
+-- one equation between lists, which antt computes. Assumes nothing.
 use mathlib.Core.Path.{_≡_, refl, sym, ap, ap₂, _∙_}
 use mathlib.Core.Logic.{⊎-elim}
 use mathlib.Core.Bool.{Bool, true, false, _&&_, _||_}
@@ -9,9 +8,9 @@ use Prim.Native.Nat.{ℕ, zero, suc, _+_, _-_, _≤_, _<_}
 use native.Mathlib.Nat.{add-suc, suc-add}
 use native.Mathlib.Omega.{arith}
 use lib.Dec.{leb, ltb, eqb}
-use borrow.Author.Tests.{leb-true, ltb-true, lt-ltb, le-ltb, le-leb, lt-leb, eq-eqb, ne-eqb}
+use borrow.Author.Tests.{lt-ltb, le-ltb, le-leb, lt-leb, eq-eqb, ne-eqb}
 use Rattle.text.specs.White.{mem}
-use Rattle.text.proofs.Bools.{and-l, and-r, and-true, or-assoc, le-or-lt}
+use Rattle.text.proofs.Bools.{or-assoc, le-or-lt}
 
 -- n numbers from a on
 abbrev pub upFrom : ℕ → ℕ → List ℕ
@@ -66,35 +65,3 @@ unfolding mem
 within-spread c [] = refl
 within-spread c (lo ∷ []) = refl
 within-spread c (lo ∷ hi ∷ r) = ap₂ _||_ (pair c lo hi) (within-spread c r) ∙ sym (mem-append c (upFrom lo (suc hi - lo)) (spread r))
-
--- ---- ascending order
-
--- every range starts above the end of the one before it, the first above b
-abbrev pub ascending : ℕ → List ℕ → Bool
-ascending b [] = true
-ascending b (lo ∷ []) = true
-ascending b (lo ∷ hi ∷ r) = ltb b lo && (leb lo hi && ascending hi r)
-
-above : (b c : ℕ) (t : List ℕ) → ascending b t ≡ true → c ≤ b → within t c ≡ false
-above b c [] e h = refl
-above b c (lo ∷ []) e h = refl
-above b c (lo ∷ hi ∷ r) e h =
-    let l = ltb-true b lo (and-l (ltb b lo) _ e) in
-    let m = and-r (ltb b lo) (leb lo hi && ascending hi r) e in
-    let g = leb-true lo hi (and-l (leb lo hi) (ascending hi r) m) in
-    rw (lt-leb lo c (omega arith)) (above hi c r (and-r (leb lo hi) (ascending hi r) m) (omega arith))
-
-pub first-decides : (b c lo hi : ℕ) (r : List ℕ) → ascending b (lo ∷ hi ∷ r) ≡ true → c ≤ hi → within (lo ∷ hi ∷ r) c ≡ leb lo c
-first-decides b c lo hi r e h =
-    rw (le-leb c hi h, above hi c r (and-r (leb lo hi) (ascending hi r) (and-r (ltb b lo) (leb lo hi && ascending hi r) e)) h, and-true) (go (leb lo c))
-  where
-    go : (t : Bool) → t || false ≡ t
-    go true = refl
-    go false = refl
-
-pub passed : (c lo hi : ℕ) (r : List ℕ) → hi < c → within (lo ∷ hi ∷ r) c ≡ within r c
-passed c lo hi r h = rw (lt-leb c hi h) (go (leb lo c))
-  where
-    go : (t : Bool) → (t && false) || within r c ≡ within r c
-    go true = refl
-    go false = refl

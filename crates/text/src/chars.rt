@@ -101,15 +101,12 @@ pub fn count(t: &[u8], limit: u32) -> u64
     let mut i: usize = 0;
     while i < t.len() {
         let c = char_at(t, i);
-        if is_white(c.code) {
-            i += c.len;
-        } else {
-            n += 1;
-            if n == above {
-                return n;
-            }
-            i += c.len;
+        // a sum, not a branch on the answer
+        n += 1 - is_white(c.code) as u64;
+        if n == above {
+            return n;
         }
+        i += c.len;
     }
     n
 }

@@ -26,21 +26,24 @@ const WHITE: [u32; 20] = [
     0x3000,
 ];
 
-// The code point c has White_Space: none above the last range has it, else the first range that ends at c or above it decides.
+// The code point c has White_Space: none above the last range has it, else every range is asked, and one bool gathers the answers.
 pub fn is_white(c: u32) -> bool
     ensures { λ r. ⌜ r ≡ isWhite c ⌝ }
 {
     if WHITE[19] < c {
         return false;
     }
+    let mut w = false;
     let mut k: usize = 0;
     while k < 10 {
         let lo = WHITE[k * 2];
         let hi = WHITE[k * 2 + 1];
-        if c <= hi {
-            return lo <= c;
+        if lo <= c {
+            if c <= hi {
+                w = true;
+            }
         }
         k += 1;
     }
-    false
+    w
 }

@@ -1,8 +1,7 @@
 -- `text::chars::count` meets its contract: character by character, by the laws of `Counting`. Assumes nothing.
 use Prim.Native.Nat.{_-_}
-use Rattle.text.proofs.CharLaws.{Counting, count-dark, count-end, count-none, count-over, count-white, next-moves, next-within}
+use Rattle.text.proofs.CharLaws.{Counting, at-most-one, count-end, count-next, count-none, count-over, next-moves, next-within}
 use lib.ListN.{length}
-use mathlib.Core.Path.{_∙_, sym}
 use borrow.Author.Needs.{needs}
 use native.Mathlib.Omega.{arith}
 use Rattle.text.proofs.chars.count.Statement.{statement}
@@ -14,6 +13,9 @@ Inv-loop t limit above n₀ i₀ n i = Counting t limit n i
 abbrev μ-loop : tie.MeasureT-loop
 μ-loop t limit above n₀ i₀ n i = length t - i
 
+returns : tie.Need-returns Inv-loop μ-loop
+returns c = count-over (c .before .before .before .before .loop .inv) (c .before .before .before .loop-test .taken) (c .before .before .char-at .ensures) (c .before .is-white .ensures) (c .if1 .taken)
+
 add-i : tie.Need-add-i Inv-loop μ-loop
 add-i c = omega (arith, next-within (c .before .before .before .before .before .loop .inv) (c .before .before .before .before .loop-test .taken) (c .before .before .before .char-at .ensures))
 
@@ -21,19 +23,7 @@ loop-less : tie.Need-loop-less Inv-loop μ-loop
 loop-less c = omega (arith, next-within (c .before .before .before .before .before .loop .inv) (c .before .before .before .before .loop-test .taken) (c .before .before .before .char-at .ensures), next-moves (c .before .before .before .before .before .loop .inv) (c .before .before .before .before .loop-test .taken) (c .before .before .before .char-at .ensures))
 
 loop-again : tie.Need-loop-again Inv-loop μ-loop
-loop-again c = count-white (c .before .before .before .before .before .loop .inv) (c .before .before .before .before .loop-test .taken) (c .before .before .before .char-at .ensures) (sym (c .before .if1 .taken) ∙ c .before .before .is-white .ensures)
-
-returns : tie.Need-returns Inv-loop μ-loop
-returns c = count-over (c .before .before .before .before .before .loop .inv) (c .before .before .before .before .loop-test .taken) (c .before .before .before .char-at .ensures) (sym (c .before .if1 .left) ∙ c .before .before .is-white .ensures) (c .if2 .taken)
-
-add-i-2 : tie.Need-add-i-2 Inv-loop μ-loop
-add-i-2 c = omega (arith, next-within (c .before .before .before .before .before .before .loop .inv) (c .before .before .before .before .before .loop-test .taken) (c .before .before .before .before .char-at .ensures))
-
-loop-less-2 : tie.Need-loop-less-2 Inv-loop μ-loop
-loop-less-2 c = omega (arith, next-within (c .before .before .before .before .before .before .loop .inv) (c .before .before .before .before .before .loop-test .taken) (c .before .before .before .before .char-at .ensures), next-moves (c .before .before .before .before .before .before .loop .inv) (c .before .before .before .before .before .loop-test .taken) (c .before .before .before .before .char-at .ensures))
-
-loop-again-2 : tie.Need-loop-again-2 Inv-loop μ-loop
-loop-again-2 c = count-dark (c .before .before .before .before .before .before .loop .inv) (c .before .before .before .before .before .loop-test .taken) (c .before .before .before .before .char-at .ensures) (sym (c .before .before .if1 .left) ∙ c .before .before .before .is-white .ensures) (c .before .if2 .left)
+loop-again c = count-next (c .before .before .before .before .before .loop .inv) (c .before .before .before .before .loop-test .taken) (c .before .before .before .char-at .ensures) (c .before .before .is-white .ensures) (c .before .if1 .left)
 
 pub count-spec : {M : Type 1} → statement M
 count-spec =
@@ -45,12 +35,11 @@ count-spec =
     (λ c. count-none _ _)
     (λ c κs. c .loop-test .taken)
     (λ c κs. search needs)
+    (λ c. search needs)
+    (λ c. at-most-one (c .is-white .result))
+    (λ c. omega (arith, c .before .before .before .loop .inv .below))
+    returns
     add-i
     loop-less
     loop-again
-    (λ c. omega (arith, c .before .before .before .before .loop .inv))
-    returns
-    add-i-2
-    loop-less-2
-    loop-again-2
     (λ c. count-end (c .before .loop .inv) (c .loop-test .left)))
