@@ -13,9 +13,9 @@ use borrow.Author.Tests.{le-leb, lt-leb, ne-eqb, leb-true, leb-false}
 use Rattle.tree.specs.declared.record.RecordNo.{RecordNo}
 use Rattle.tree.specs.Table.{treeOf, roomOf, fitting, Decoded}
 use Rattle.meaning.specs.declared.call.Call.{Call}
-use Rattle.output.specs.declared.decode.Decoded as read
-use Rattle.output.specs.declared.run.Run.{Run}
-use Rattle.output.specs.declared.state.State as code
+use Rattle.entry.specs.declared.decode.Decoded as read
+use Rattle.queue.specs.declared.run.Run.{Run}
+use Rattle.entry.specs.declared.state.State as code
 use Rattle.meaning.specs.declared.answer.Refusal.the-variants.{BadCall}
 use Rattle.meaning.specs.declared.answer.Answer.{Answer}
 use Rattle.meaning.specs.declared.answer.Answer.the-variants.{Done, Refused}
@@ -23,9 +23,9 @@ use Rattle.meaning.specs.State.{Script, fresh}
 use Rattle.meaning.specs.CallRecord.{decode}
 use Rattle.meaning.specs.World.{World, world, opened, capacity, Result, result}
 use Rattle.meaning.specs.Plan.{Plan, nothing, make, refuse, _then_, exec, Ran}
-use Rattle.output.specs.Run.{answered, isRefused}
-use Rattle.output.specs.View.{tab, view, resultOf, scriptOf}
-use Rattle.output.specs.Served.{encoded, startedRun, asCall}
+use Rattle.queue.specs.Run.{answered, isRefused}
+use Rattle.queue.specs.View.{tab, view, resultOf, scriptOf}
+use Rattle.entry.specs.Served.{encoded, startedRun, asCall}
 use Rattle.meaning.proofs.Chain.{keeps}
 use Rattle.bench.specs.Packed.{reachedAs}
 use Rattle.bench.specs.History.{bodyLen, askedAt, callsFrom, callsIn, scriptAt, replayed, Replayed}

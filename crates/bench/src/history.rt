@@ -1,15 +1,15 @@
 // Call records end to end, made one after another.
+use entry::decode::Decoded;
+use entry::decode::decode;
 use meaning::answer::Refusal;
 use output::calls::make_call;
-use output::decode::Decoded;
-use output::decode::decode;
-use output::run::Run;
+use queue::run::Run;
 ghost use mathlib.Core.Path.{_≡_};
 ghost use Prim.Native.Nat.{_+_, _<_};
 ghost use lib.ListN.{length, take, drop, getD};
 ghost use Rattle.meaning.specs.Plan.{Ran};
-ghost use Rattle.output.specs.Served.{asCall};
-ghost use Rattle.output.specs.View.{scriptOf, resultOf};
+ghost use Rattle.entry.specs.Served.{asCall};
+ghost use Rattle.queue.specs.View.{scriptOf, resultOf};
 ghost use Rattle.bench.specs.History.{bodyLen, askedAt, callsIn};
 
 // How many bytes stand behind a byte of kind: none behind an unknown one.

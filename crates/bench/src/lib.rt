@@ -6,9 +6,9 @@ use crate::history::replay;
 use crate::pack::finding;
 use crate::pack::pack;
 use crate::pack::reached;
+use entry::state::fresh;
+use entry::state::started;
 use meaning::answer::Answer;
-use output::state::fresh;
-use output::state::started;
 use tree::table::decode;
 use tree::table::first;
 ghost use mathlib.Core.Path.{_≡_};
@@ -40,7 +40,7 @@ pub extern "C" fn bench_count(s: &[u8], limit: u32) -> u64
 pub extern "C" fn bench_open(source: &[u8], tree: &[u8]) -> u64
     ensures { λ r. ⌜ r ≡ packed (seen (opening (now (source .entry)) (now (tree .entry)))) ⌝ }
 {
-    pack(output::checks::opening(source, tree))
+    pack(entry::checks::opening(source, tree))
 }
 
 // Call records one after another on a fresh engine, over a tree that is decoded once; nothing that is lent is checked.

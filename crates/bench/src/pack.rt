@@ -2,7 +2,7 @@
 use meaning::answer::Answer;
 use meaning::answer::number;
 use meaning::answer::place;
-use output::run::Run;
+use queue::run::Run;
 use text::utf8::Formed;
 ghost use mathlib.Core.Path.{_≡_};
 ghost use Rattle.meaning.specs.Numbers.{seen};

@@ -1,12 +1,12 @@
 // Document 01's small sessions P4 to P10 through the public functions: each answer, the output, and how many comments wait.
+use entry::engine;
+use entry::state::State;
+use entry::state::fresh;
 use libc::STDOUT_FILENO;
 use meaning::answer::Answer;
 use meaning::answer::Refusal;
 use meaning::call::Call;
 use meaning::call::Hint;
-use output::engine;
-use output::state::State;
-use output::state::fresh;
 use tree::record::RecordNo;
 
 // A line comment, a block comment and two tokens.

@@ -1,10 +1,5 @@
-mod StreamLaws
-pub mod FlowLaws
-pub mod LoopLaws
-mod RestLaws
-pub mod ItemLaws
-pub mod PathLaws
-mod BodyLaws
-mod ModifierLaws
-mod PatLaws
-mod UseLaws
+mod EndLaws
+mod AtLeastLaws
+pub mod Tame
+pub mod TameSteps
+pub mod TameRules

@@ -1,10 +1,1 @@
-pub mod Stream
-pub mod Flow
-pub mod Loop
-pub mod Remaining
-pub mod Items
-pub mod Path
-pub mod Use
-pub mod Pattern
-pub mod Body
-pub mod Attribute
+pub mod Rules

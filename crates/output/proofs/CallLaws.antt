@@ -31,17 +31,17 @@ use Rattle.meaning.specs.Release.{lineRelease}
 use Rattle.meaning.specs.Calls.{litText, signed, act, settle, writeNode, no-node, a-node, namedBy}
 use Rattle.meaning.specs.World.{World, world, capacity, Result, result, made}
 use Rattle.meaning.specs.Plan.{make, Ran}
-use Rattle.output.specs.declared.run.Run.{Run}
-use Rattle.output.specs.declared.room.Gap.{Gap}
-use Rattle.output.specs.declared.release.Way.{Way}
-use Rattle.output.specs.declared.release.Way.the-variants.{Lines, Spaces}
-use Rattle.output.specs.Run.{isRefused, answered, movedRun, hintedRun, indentedRun, closedRun, flushedRun, readyRun, presentRun}
-use Rattle.output.specs.Passes.{releaseOf, wayOf}
-use Rattle.output.specs.Wording.{litSpan}
-use Rattle.output.specs.View.{queueOf, view, resultOf, scriptOf, gapBytes}
-use Rattle.output.specs.Parts.{steps, settles, Released, PutText, onAnswer, Gathered, Beside, WroteNode}
-use Rattle.output.proofs.WriteLaws.{laid-length}
-use Rattle.output.proofs.StepLaws.{ready-steps, present-call, open-steps, stopped-steps, thenState, then-stopped, then-open, settle-then}
+use Rattle.queue.specs.declared.run.Run.{Run}
+use Rattle.queue.specs.declared.room.Gap.{Gap}
+use Rattle.queue.specs.declared.release.Way.{Way}
+use Rattle.queue.specs.declared.release.Way.the-variants.{Lines, Spaces}
+use Rattle.queue.specs.Run.{isRefused, answered, movedRun, hintedRun, indentedRun, closedRun, flushedRun, readyRun, presentRun}
+use Rattle.queue.specs.Passes.{releaseOf, wayOf}
+use Rattle.queue.specs.Wording.{litSpan}
+use Rattle.queue.specs.View.{queueOf, view, resultOf, scriptOf, gapBytes}
+use Rattle.queue.specs.Parts.{steps, settles, Released, PutText, onAnswer, Gathered, Beside, WroteNode}
+use Rattle.queue.proofs.WriteLaws.{laid-length}
+use Rattle.queue.proofs.StepLaws.{ready-steps, present-call, open-steps, stopped-steps, thenState, then-stopped, then-open, settle-then}
 
 -- the steps of a call, from an engine that is open or refused already
 pub record Acted (x : Script) (c : Call) (run : Run) (q b : List ℕ) (r : Run) (q′ b′ : List ℕ) : Type 0 where

@@ -24,14 +24,14 @@ use Rattle.meaning.specs.Flush.{flushGap}
 use Rattle.meaning.specs.Release.{lineRelease}
 use Rattle.meaning.specs.Calls.{act, writeNode}
 use Rattle.meaning.specs.World.{World, world, Result, result, made}
-use Rattle.output.specs.declared.run.Run.{Run}
-use Rattle.output.specs.declared.room.Gap.{Gap}
-use Rattle.output.specs.declared.release.Way.the-variants.{Lines}
-use Rattle.output.specs.Run.{isRefused, answered, movedRun, hintedRun, flushedRun}
-use Rattle.output.specs.View.{queueOf, view, resultOf, gapBytes}
-use Rattle.output.specs.Parts.{steps, settles, Released, onAnswer, Gathered, Beside, WroteNode}
-use Rattle.output.proofs.WriteLaws.{laid-length}
-use Rattle.output.proofs.StepLaws.{open-steps}
+use Rattle.queue.specs.declared.run.Run.{Run}
+use Rattle.queue.specs.declared.room.Gap.{Gap}
+use Rattle.queue.specs.declared.release.Way.the-variants.{Lines}
+use Rattle.queue.specs.Run.{isRefused, answered, movedRun, hintedRun, flushedRun}
+use Rattle.queue.specs.View.{queueOf, view, resultOf, gapBytes}
+use Rattle.queue.specs.Parts.{steps, settles, Released, onAnswer, Gathered, Beside, WroteNode}
+use Rattle.queue.proofs.WriteLaws.{laid-length}
+use Rattle.queue.proofs.StepLaws.{open-steps}
 use Rattle.output.proofs.CallLaws.{Acted, gather-flat, behind-is, left-as, waiting}
 
 -- ---- a node's text, and then what stands behind it

@@ -1,33 +1,33 @@
 // The eleven calls on a run. All have one list of parameters and one contract: what is left is what the plan of this one call leaves.
-use crate::collect::or_else;
-use crate::collect::process_comments;
 use crate::flush::due;
 use crate::flush::flushed;
 use crate::flush::put;
-use crate::release::Way;
-use crate::release::release;
-use crate::release::release_waiting;
-use crate::room::Gap;
-use crate::room::lay;
-use crate::room::no_gap;
-use crate::room::passes;
-use crate::run::Run;
-use crate::wording::LITERALS;
-use crate::wording::Words;
-use crate::wording::text;
 use meaning::answer::Answer;
 use meaning::answer::Refusal;
 use meaning::call::Call;
 use meaning::call::Hint;
 use meaning::call::Literal;
+use queue::collect::or_else;
+use queue::collect::process_comments;
+use queue::release::Way;
+use queue::release::release;
+use queue::release::release_waiting;
+use queue::room::Gap;
+use queue::room::lay;
+use queue::room::no_gap;
+use queue::room::passes;
+use queue::run::Run;
+use queue::wording::LITERALS;
+use queue::wording::Words;
+use queue::wording::text;
 use tree::cursor::behind;
 use tree::record::RecordNo;
 use tree::table::node;
 ghost use mathlib.Core.Path.{_≡_};
 ghost use Rattle.meaning.specs.Plan.{make, Ran};
-ghost use Rattle.output.specs.Passes.{wayOf};
-ghost use Rattle.output.specs.View.{scriptOf, resultOf};
-ghost use Rattle.output.specs.Parts.{WroteNode};
+ghost use Rattle.queue.specs.Passes.{wayOf};
+ghost use Rattle.queue.specs.View.{scriptOf, resultOf};
+ghost use Rattle.queue.specs.Parts.{WroteNode};
 
 // The gap and the node's text go out, and what stands behind the node is collected. `next` is the run with the hints that are left then.
 fn write_node(

@@ -1,19 +1,19 @@
 // The flush: the white space that is due, and a text behind it.
-use crate::room::Gap;
-use crate::room::lay;
-use crate::room::line_break;
-use crate::room::no_gap;
-use crate::room::one_space;
-use crate::room::passes;
-use crate::run::Run;
 use meaning::answer::Answer;
 use meaning::answer::Refusal;
+use queue::room::Gap;
+use queue::room::lay;
+use queue::room::line_break;
+use queue::room::no_gap;
+use queue::room::one_space;
+use queue::room::passes;
+use queue::run::Run;
 ghost use mathlib.Core.Path.{_≡_};
 ghost use mathlib.Core.List.{[]};
 ghost use Rattle.meaning.specs.Flush.{breaking, flushGap};
-ghost use Rattle.output.specs.Run.{flushedRun};
-ghost use Rattle.output.specs.View.{view, gapBytes};
-ghost use Rattle.output.specs.Parts.{PutText};
+ghost use Rattle.queue.specs.Run.{flushedRun};
+ghost use Rattle.queue.specs.View.{view, gapBytes};
+ghost use Rattle.queue.specs.Parts.{PutText};
 
 // Newlines are due: `use_lines`, and `lines` is not 0.
 fn breaking(run: Run) -> bool

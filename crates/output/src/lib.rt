@@ -1,13 +1,3 @@
-// The engine: the calls that write nodes and literals, let comments out, and set the white space that is due.
+// The eleven calls of fmt/output.rs's `Formatter` on a run, and the white space that is due before a text.
 pub mod calls;
-pub mod checks;
-pub mod collect;
-pub mod decode;
-pub mod engine;
 pub mod flush;
-pub mod release;
-pub mod ring;
-pub mod room;
-pub mod run;
-pub mod state;
-pub mod wording;

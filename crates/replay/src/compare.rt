@@ -1,7 +1,7 @@
-// What a call answers and leaves, held against what was recorded of it: eight words of state, four for each waiting comment, the output.
+// What a call or a run answers and leaves, held against what was recorded of it: eight words of state, four for each waiting comment, the output.
+use entry::state::State;
 use meaning::answer;
 use meaning::answer::Answer;
-use output::state::State;
 
 // The answer as recorded: 0, or the refusal's number times 2^32 and its place.
 pub fn same_answer(a: Answer, recorded: u64) -> bool {
@@ -52,15 +52,21 @@ fn output_at(file: &[u8], at: usize) -> usize {
     packed::plus(at, 32 + word(file, at, 6) % 0x1000 * 16)
 }
 
-// The output as recorded, and untouched bytes behind it.
+// What stands behind the output: bytes that nothing touched or, once a run was refused, zero.
+fn blank(file: &[u8], at: usize) -> u8 {
+    if word(file, at, 7) == 0 { 0xEE } else { 0 }
+}
+
+// The output as recorded, and nothing behind it.
 fn same_buffer(file: &[u8], at: usize, out: &[u8]) -> bool {
     let from = output_at(file, at);
     let len = word(file, at, 0);
+    let rest = blank(file, at);
     for i in 0..out.len() {
         let recorded = if i < len {
             packed::byte(file, packed::plus(from, i))
         } else {
-            0xEE
+            rest
         };
         if out[i] != recorded {
             return false;
@@ -74,7 +80,7 @@ pub fn same_left(file: &[u8], at: usize, s: State, out: &[u8]) -> bool {
     same_words(file, at, s) && same_queue(file, at, &queue) && same_buffer(file, at, out)
 }
 
-// Where the next call stands.
+// Where the next step stands.
 pub fn behind(file: &[u8], at: usize) -> usize {
     packed::plus(output_at(file, at), word(file, at, 0))
 }

@@ -1,10 +1,13 @@
-// One history: a fresh engine over its source and tree, and its calls one by one.
+// One history: a fresh engine over its source and tree, and its steps one by one, calls and, in the file of runs, layout runs.
 use crate::compare;
-use output::engine;
-use output::state::State;
+use entry::engine;
+use entry::state::State;
+use entry::state::Step;
+use format::runs;
+use tree::record::RecordNo;
 ghost use Prim.Native.Nat.{_≤_};
 
-// Histories, calls that agreed and went, calls that agreed and were refused, and those that differed.
+// Histories, steps that agreed and went, steps that agreed and were refused, and those that differed.
 pub struct Tally {
     pub histories: u64,
     pub went: u64,
@@ -52,14 +55,35 @@ fn counted(t: Tally, same: bool, answer: u64) -> Tally {
     }
 }
 
-// One call: its record, what is answered, and what is left.
-fn call(file: &[u8], source: &[u8], tree: &[u8], out: &mut [u8], n: Next) -> Next {
+// The node that a layout run names.
+fn node(bytes: &[u8]) -> RecordNo {
+    RecordNo((packed::word(bytes, 1) % 0x1_0000_0000) as u32)
+}
+
+// One step: in the file of runs E0 and a node is a layout run, all else is a call record.
+fn step(
+    source: &[u8],
+    tree: &[u8],
+    out: &mut [u8],
+    state: State,
+    bytes: &[u8],
+    with_runs: bool,
+) -> Step {
+    if with_runs && packed::byte(bytes, 0) == 0xE0 {
+        return runs::run(source, tree, out, state, node(bytes));
+    }
+    engine::record(source, tree, out, state, bytes)
+}
+
+// One step: its bytes, what is answered, and what is left.
+fn one(file: &[u8], source: &[u8], tree: &[u8], out: &mut [u8], n: Next, with_runs: bool) -> Next {
     let len = packed::word(file, n.at);
     let from = packed::plus(n.at, 4);
     let at = packed::plus(from, len);
     let answer = packed::long(file, at);
     let state = n.state;
-    let step = engine::record(source, tree, out, state, packed::slice(file, from, len));
+    let bytes = packed::slice(file, from, len);
+    let step = step(source, tree, out, state, bytes, with_runs);
     let given = step.answer;
     let left = packed::plus(at, 8);
     let state = step.state;
@@ -71,17 +95,18 @@ fn call(file: &[u8], source: &[u8], tree: &[u8], out: &mut [u8], n: Next) -> Nex
     }
 }
 
-fn calls(
+fn steps(
     file: &[u8],
     source: &[u8],
     tree: &[u8],
     out: &mut [u8],
     first: Next,
     count: usize,
+    with_runs: bool,
 ) -> Next {
     let mut n = first;
     for _ in 0..count {
-        n = call(file, source, tree, out, n);
+        n = one(file, source, tree, out, n, with_runs);
     }
     n
 }
@@ -110,8 +135,16 @@ fn load(file: &[u8], source: &mut [u8], list: &mut [u8]) -> Loaded {
     }
 }
 
-// The history on a buffer of its length: behind that length in the file stand the number of calls and the calls.
-fn play(file: &[u8], at: usize, source: &[u8], tree: &[u8], out: &mut [u8], t: Tally) -> Ended {
+// The history on a buffer of its length: behind that length in the file stand the number of steps and the steps.
+fn play(
+    file: &[u8],
+    at: usize,
+    source: &[u8],
+    tree: &[u8],
+    out: &mut [u8],
+    t: Tally,
+    with_runs: bool,
+) -> Ended {
     untouched(out);
     let opened = engine::open(source, tree);
     let state = opened.state;
@@ -121,7 +154,7 @@ fn play(file: &[u8], at: usize, source: &[u8], tree: &[u8], out: &mut [u8], t: T
         tally: t,
     };
     let count = packed::word(file, packed::plus(at, 4));
-    let n = calls(file, source, tree, out, first, count);
+    let n = steps(file, source, tree, out, first, count, with_runs);
     let done = n.tally;
     Ended {
         at: n.at,
@@ -140,7 +173,14 @@ fn least(a: usize, b: usize) -> usize
     if a <= b { a } else { b }
 }
 
-pub fn run(file: &[u8], source: &mut [u8], list: &mut [u8], out: &mut [u8], t: Tally) -> Ended {
+pub fn run(
+    file: &[u8],
+    source: &mut [u8],
+    list: &mut [u8],
+    out: &mut [u8],
+    t: Tally,
+    with_runs: bool,
+) -> Ended {
     let l = load(file, source, list);
     let cap = least(packed::word(file, l.at), out.len());
     play(
@@ -150,5 +190,6 @@ pub fn run(file: &[u8], source: &mut [u8], list: &mut [u8], out: &mut [u8], t: T
         packed::front(list, l.list),
         &mut out[0..cap],
         t,
+        with_runs,
     )
 }

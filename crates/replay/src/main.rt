@@ -1,4 +1,4 @@
-// Recorded histories of calls: answer, state and buffer behind each call are held against what the oracle recorded of the Rust.
+// Recorded histories of calls, and of calls and layout runs: answer, state and buffer behind each step are held against what the oracle recorded of the Rust.
 // oracle/README.md has the file's form.
 mod compare;
 mod history;
@@ -20,9 +20,17 @@ fn one(
     list: &mut [u8],
     out: &mut [u8],
     e: Ended,
+    with_runs: bool,
 ) -> Ended {
     let n = read(fd, window, e.at);
-    let h = history::run(packed::front(window, n), source, list, out, e.tally);
+    let h = history::run(
+        packed::front(window, n),
+        source,
+        list,
+        out,
+        e.tally,
+        with_runs,
+    );
     let tally = h.tally;
     Ended {
         at: packed::plus(e.at, h.at),
@@ -30,7 +38,14 @@ fn one(
     }
 }
 
-fn replay(fd: i32, window: &mut [u8], source: &mut [u8], list: &mut [u8], out: &mut [u8]) -> Tally {
+fn replay(
+    fd: i32,
+    window: &mut [u8],
+    source: &mut [u8],
+    list: &mut [u8],
+    out: &mut [u8],
+    with_runs: bool,
+) -> Tally {
     let n = read(fd, window, 0);
     let count = packed::word(packed::front(window, n), 0);
     let mut e = Ended {
@@ -38,7 +53,7 @@ fn replay(fd: i32, window: &mut [u8], source: &mut [u8], list: &mut [u8], out: &
         tally: history::none(),
     };
     for _ in 0..count {
-        e = one(fd, window, source, list, out, e);
+        e = one(fd, window, source, list, out, e, with_runs);
     }
     e.tally
 }
@@ -48,8 +63,8 @@ fn say(n: u64, what: &[u8]) {
     io::write_all(1, what);
 }
 
-fn main() {
-    let path = b"calls.bin";
+// One file, and what was found of it.
+fn replay_file(path: &[u8], steps: &[u8], with_runs: bool) {
     let fd = os::open_read(path);
     if fd < 0 {
         os::fail(path);
@@ -59,10 +74,15 @@ fn main() {
     let mut source = [0u8; 65536];
     let mut list = [0u8; 4096];
     let mut out = [0u8; 2048];
-    let t = replay(fd, &mut window, &mut source, &mut list, &mut out);
+    let t = replay(fd, &mut window, &mut source, &mut list, &mut out, with_runs);
     libc::close(fd);
     say(t.histories, b" histories: ");
-    say(t.went, b" calls went, ");
+    say(t.went, steps);
     say(t.refused, b" were refused, all as recorded; ");
     say(t.differ, b" differ\n");
+}
+
+fn main() {
+    replay_file(b"calls.bin", b" calls went, ", false);
+    replay_file(b"runs.bin", b" calls and runs went, ", true);
 }

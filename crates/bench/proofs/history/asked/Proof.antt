@@ -1,6 +1,6 @@
 -- `bench::history::asked` meets its contract: the call, or refusal 12. Assumes nothing.
 use Rattle.meaning.proofs.Chain.{keeps}
-use Rattle.output.specs.Served.{asCall}
+use Rattle.entry.specs.Served.{asCall}
 use Rattle.bench.proofs.HistoryLaws.{asked-bad, asked-made, asked-stopped}
 use mathlib.Core.Path.{_∙_, ap, sym}
 use borrow.Author.Needs.{needs}

@@ -1,7 +1,7 @@
 -- `bench::history::replay` meets its contract. The invariant: from here on is as much as from the start. Assumes nothing.
 use Prim.Native.Nat.{_-_}
 use lib.ListN.{length}
-use Rattle.output.specs.View.{scriptOf, resultOf}
+use Rattle.queue.specs.View.{scriptOf, resultOf}
 use Rattle.bench.proofs.HistoryLaws.{Going, few-bytes, going-end, going-more, going-none, some-bytes}
 use borrow.Author.Needs.{needs}
 use native.Mathlib.Omega.{arith}

@@ -1,7 +1,7 @@
 -- `output::calls::flush_prefix_comments` meets its contract: collecting, then a release. Assumes nothing.
 use Rattle.output.proofs.CallLaws.{acted-stopped, ran-ready}
 use Rattle.output.proofs.NodeLaws.{prefix-done, prefix-full, prefix-past}
-use Rattle.output.proofs.StepLaws.{goes}
+use Rattle.queue.proofs.StepLaws.{goes}
 use mathlib.Core.Path.{_∙_, refl, sym}
 use borrow.Author.Needs.{needs}
 use Rattle.output.proofs.calls.flush_prefix_comments.Statement.{statement}

@@ -1,7 +1,7 @@
 -- `output::calls::ignore` meets its contract. Assumes nothing.
 use Rattle.output.proofs.CallLaws.{acted-stopped, ignore-done, ignore-full, ran-present}
-use Rattle.output.proofs.StepLaws.{goes}
-use Rattle.output.specs.View.{scriptOf}
+use Rattle.queue.proofs.StepLaws.{goes}
+use Rattle.queue.specs.View.{scriptOf}
 use mathlib.Core.Path.{_∙_, refl, sym}
 use borrow.Author.Needs.{needs}
 use Rattle.output.proofs.calls.ignore.Statement.{statement}

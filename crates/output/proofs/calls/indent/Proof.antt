@@ -1,6 +1,6 @@
 -- `output::calls::indent` meets its contract: up or down, within 0 to 64 or not. Assumes nothing.
 use Rattle.output.proofs.CallLaws.{acted-stopped, indent-down, indent-over, indent-under, indent-up, ran-ready}
-use Rattle.output.proofs.StepLaws.{goes}
+use Rattle.queue.proofs.StepLaws.{goes}
 use mathlib.Core.Path.{_∙_, refl, sym}
 use borrow.Author.Needs.{needs}
 use Rattle.output.proofs.calls.indent.Statement.{statement}

@@ -1,6 +1,6 @@
 -- `output::calls::nl` meets its contract. Assumes nothing.
 use Rattle.output.proofs.CallLaws.{by-nl, by-open, by-stopped, nl-nothing, ran-ready}
-use Rattle.output.proofs.StepLaws.{goes}
+use Rattle.queue.proofs.StepLaws.{goes}
 use mathlib.Core.Path.{_∙_, refl, sym}
 use borrow.Author.Needs.{needs}
 use Rattle.output.proofs.calls.nl.Statement.{statement}

@@ -1,7 +1,7 @@
 -- `output::calls::write_node` meets its contract: no room, no room in the queue, or written. Assumes nothing.
 use Rattle.output.proofs.NodeLaws.{node-done, node-full, node-past}
-use Rattle.output.proofs.StepLaws.{goes, moved-anew}
-use Rattle.output.specs.View.{scriptOf}
+use Rattle.queue.proofs.StepLaws.{goes, moved-anew}
+use Rattle.queue.specs.View.{scriptOf}
 use lib.ListN.{length}
 use mathlib.Core.Path.{_∙_, ap, sym}
 use lib.Seq.{length-sets}

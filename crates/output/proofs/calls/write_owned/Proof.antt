@@ -1,7 +1,7 @@
 -- `output::calls::write_owned` meets its contract. Assumes nothing.
 use Rattle.output.proofs.CallLaws.{acted-stopped, ran-present}
 use Rattle.output.proofs.NodeLaws.{owned-is}
-use Rattle.output.proofs.StepLaws.{goes}
+use Rattle.queue.proofs.StepLaws.{goes}
 use mathlib.Core.Path.{_∙_, refl, sym}
 use borrow.Author.Needs.{needs}
 use Rattle.output.proofs.calls.write_owned.Statement.{statement}

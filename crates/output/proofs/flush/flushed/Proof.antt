@@ -1,5 +1,5 @@
 -- `output::flush::flushed` meets its contract. Assumes nothing.
-use Rattle.output.specs.Run.{flushedRun}
+use Rattle.queue.specs.Run.{flushedRun}
 use mathlib.Core.Path.{_∙_, sym}
 use borrow.Author.Needs.{needs}
 use Rattle.output.proofs.flush.flushed.Statement.{statement}

@@ -1,7 +1,7 @@
 -- `output::flush::put` meets its contract: refused already, no room, or written. Assumes nothing.
 use Rattle.output.proofs.CallLaws.{put-done, put-past, put-stopped}
-use Rattle.output.proofs.StepLaws.{anew, goes}
-use Rattle.output.specs.Run.{flushedRun}
+use Rattle.queue.proofs.StepLaws.{anew, goes}
+use Rattle.queue.specs.Run.{flushedRun}
 use mathlib.Core.Path.{_∙_, ap, sym}
 use borrow.Author.Needs.{needs}
 use native.Mathlib.Omega.{arith}

@@ -7,10 +7,10 @@ use Rattle.replay.proofs.compare.same_buffer.Statement.{statement}
 use Rattle.replay.proofs.compare.same_buffer.Tie as tie
 
 abbrev Inv-loop : tie.InvT-loop
-Inv-loop file at out from len i₀ i-end i = (i ≤ i-end) × (i-end ≡ length out)
+Inv-loop file at out from len rest i₀ i-end i = (i ≤ i-end) × (i-end ≡ length out)
 
 abbrev μ-loop : tie.MeasureT-loop
-μ-loop file at out from len i₀ i-end i = i-end - i
+μ-loop file at out from len rest i₀ i-end i = i-end - i
 
 pub same-buffer-spec : {M : Type 1} → statement M
 same-buffer-spec =
@@ -18,6 +18,7 @@ same-buffer-spec =
     (tie.spec
     Inv-loop
     μ-loop
+    (λ c κs. search needs)
     (λ c κs. search needs)
     (λ c κs. search needs)
     (λ c. search needs)

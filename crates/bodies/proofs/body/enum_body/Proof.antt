@@ -1,0 +1,35 @@
+-- `bodies::body::enum_body` meets its contract. Assumes nothing.
+use Rattle.tree.specs.Table.{treeOf}
+use Rattle.meaning.specs.Plan.{make}
+use Rattle.kinds.specs.Facts.{byteOf, factsOf}
+use Rattle.steps.specs.Stream.{nextIs, streamOf}
+use Rattle.steps.specs.Flow.{is, plain}
+use Rattle.steps.proofs.FlowLaws.{steady}
+use Rattle.meaning.specs.declared.call.Call.the-variants.{Lit}
+use Rattle.steps.proofs.RuleLaws.{where-so, where-not}
+use Rattle.bodies.specs.Body.{variants, enumBody}
+use Rattle.kinds.specs.declared.Kind.{Kind}
+use Rattle.meaning.specs.declared.call.Literal.the-variants.{Braces}
+use borrow.Author.Needs.{needs}
+use Rattle.bodies.proofs.body.enum_body.Statement.{statement}
+use Rattle.bodies.proofs.body.enum_body.Tie as tie
+
+returns : tie.Need-returns
+unfolding enumBody byteOf factsOf
+returns c = where-so (nextIs (is (treeOf (c .before .before .before .before .before .before .before .before .before .before .args .table .now)) Kind.OpenBrace)) (variants (treeOf (c .before .before .before .before .before .before .before .before .before .before .args .table .now))) (plain (make (Lit Braces))) (streamOf (treeOf (c .before .before .before .before .before .before .before .before .before .before .args .table .now)) (c .before .before .before .before .before .before .before .before .before .before .args .p)) (c .before .before .before .before .before .before .next-is .ensures) (c .before .before .before .before .before .if1 .taken) (c .before .before .variants .ensures)
+
+returns-2 : tie.Need-returns-2
+unfolding enumBody byteOf factsOf
+returns-2 c = where-not (nextIs (is (treeOf (c .before .before .before .before .before .before .before .before .before .before .args .table .now)) Kind.OpenBrace)) (variants (treeOf (c .before .before .before .before .before .before .before .before .before .before .args .table .now))) (plain (make (Lit Braces))) (streamOf (treeOf (c .before .before .before .before .before .before .before .before .before .before .args .table .now)) (c .before .before .before .before .before .before .before .before .before .before .args .p)) (c .before .before .before .before .before .before .next-is .ensures) (c .before .before .before .before .before .if1 .left) (steady (c .before .before .lit .ensures))
+
+pub enum-body-spec : {M : Type 1} → statement M
+enum-body-spec =
+    tie.close
+    (tie.spec
+    (λ c κs. search needs)
+    (λ c κs. search needs)
+    (λ c. search needs)
+    returns
+    (λ c κs. search needs)
+    (λ c. search needs)
+    returns-2)

@@ -1,0 +1,24 @@
+-- `bodies::body::lined_variant` meets its contract. Assumes nothing.
+use Rattle.tree.specs.Table.{treeOf}
+use Rattle.steps.specs.Flow.{parse}
+use Rattle.steps.proofs.FlowLaws.{steady, _▹_}
+use Rattle.steps.proofs.ItemLaws.{itemed}
+use Rattle.steps.specs.Items.{turn}
+use Rattle.bodies.specs.Body.{lined, variant}
+use borrow.Author.Needs.{needs}
+use Rattle.bodies.proofs.body.lined_variant.Statement.{statement}
+use Rattle.bodies.proofs.body.lined_variant.Tie as tie
+
+returns : tie.Need-returns
+unfolding turn lined
+returns c = itemed (treeOf (c .before .before .before .before .before .before .before .before .before .before .before .before .before .before .before .before .before .before .before .before .args .table .now)) (c .before .before .before .before .before .before .before .before .before .before .before .before .before .before .before .before .before .before .before .before .args .s) (lined (parse (treeOf (c .before .before .before .before .before .before .before .before .before .before .before .before .before .before .before .before .before .before .before .before .args .table .now)) (variant (treeOf (c .before .before .before .before .before .before .before .before .before .before .before .before .before .before .before .before .before .before .before .before .args .table .now))))) (steady (c .before .before .before .before .before .before .before .before .before .before .before .before .before .before .before-line .ensures) ▹ c .before .before .before .before .before .before .before .before .before .next-variant .ensures) ▹ c .before .before .behind-line .ensures
+
+pub lined-variant-spec : {M : Type 1} → statement M
+lined-variant-spec =
+    tie.close
+    (tie.spec
+    (λ c κs. search needs)
+    (λ c κs. search needs)
+    (λ c κs. search needs)
+    (λ c. search needs)
+    returns)

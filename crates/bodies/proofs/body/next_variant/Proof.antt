@@ -1,0 +1,28 @@
+-- `bodies::body::next_variant` meets its contract. Assumes nothing.
+use Rattle.tree.specs.Table.{treeOf}
+use Rattle.steps.specs.Stream.{streamOf}
+use Rattle.steps.specs.Flow.{parse}
+use Rattle.steps.proofs.RuleLaws.{pumped-at, pumped-none}
+use Rattle.bodies.specs.Body.{variant}
+use borrow.Author.Needs.{needs}
+use Rattle.bodies.proofs.body.next_variant.Statement.{statement}
+use Rattle.bodies.proofs.body.next_variant.Tie as tie
+
+returns : tie.Need-returns
+returns c = pumped-at (treeOf (c .before .before .before .before .before .before .before .before .before .before .before .before .before .args .table .now)) (parse (treeOf (c .before .before .before .before .before .before .before .before .before .before .before .before .before .args .table .now)) (variant (treeOf (c .before .before .before .before .before .before .before .before .before .before .before .before .before .args .table .now)))) (streamOf (treeOf (c .before .before .before .before .before .before .before .before .before .before .before .before .before .args .table .now)) (c .before .before .before .before .before .before .before .before .before .before .before .before .before .args .p)) (c .before .before .before .before .before .before .before .before .before .take-any .ensures) (c .before .before .before .before .before .before .found .given .1) (c .before .before .variant-node .ensures)
+
+returns-2 : tie.Need-returns-2
+returns-2 c = pumped-none (treeOf (c .before .before .before .before .before .before .before .before .args .table .now)) (parse (treeOf (c .before .before .before .before .before .before .before .before .args .table .now)) (variant (treeOf (c .before .before .before .before .before .before .before .before .args .table .now)))) (streamOf (treeOf (c .before .before .before .before .before .before .before .before .args .table .now)) (c .before .before .before .before .before .before .before .before .args .p)) (c .before .before .before .before .take-any .ensures) (c .before .enum-told .given .1) (c .not-met .ensures .ran _ (c .before .before .before .before .before .before .before .before .args .queue .now) (c .before .before .before .before .before .before .before .before .args .out .now))
+
+pub next-variant-spec : {M : Type 1} → statement M
+next-variant-spec =
+    tie.close
+    (tie.spec
+    (λ c κs. search needs)
+    (λ c. search needs)
+    (λ c κs. search needs)
+    (λ c. search needs)
+    (λ c κs. search needs)
+    (λ c. search needs)
+    returns
+    returns-2)

@@ -1,0 +1,22 @@
+-- `bodies::fields::field` meets its contract. Assumes nothing.
+use Rattle.tree.specs.Table.{treeOf}
+use Rattle.steps.specs.Flow.{write, pump}
+use Rattle.steps.proofs.FlowLaws.{parsed}
+use Rattle.bodies.specs.Body.{field}
+use borrow.Author.Needs.{needs}
+use Rattle.bodies.proofs.fields.field.Statement.{statement}
+use Rattle.bodies.proofs.fields.field.Tie as tie
+
+returns : tie.Need-returns
+unfolding field
+returns c = parsed (treeOf (c .before .before .before .before .before .before .before .before .before .before .args .table .now)) (pump write) (c .before .before .before .before .records-of .ensures) (c .before .before .before .any .ensures) (c .left-over .ensures .ran _ (c .before .before .before .any .last .1 .1 .0) (c .before .before .before .any .last .1 .1 .1 .0))
+
+pub field-spec : {M : Type 1} → statement M
+field-spec =
+    tie.close
+    (tie.spec
+    (λ c κs. search needs)
+    (λ c κs. search needs)
+    (λ c κs. search needs)
+    (λ c. search needs)
+    returns)

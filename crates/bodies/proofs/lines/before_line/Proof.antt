@@ -1,0 +1,21 @@
+-- `bodies::lines::before_line` meets its contract. Assumes nothing.
+use mathlib.Core.Path.{_∙_}
+use Rattle.meaning.proofs.Chain as chain
+use borrow.Author.Needs.{needs}
+use Rattle.bodies.proofs.lines.before_line.Statement.{statement}
+use Rattle.bodies.proofs.lines.before_line.Tie as tie
+
+same-length : tie.Need-same-length
+same-length c = chain.keeps (c .before .before .comments .ensures) ∙ chain.keeps (c .before .before .before .before .before .before .before .nl .ensures)
+
+returns : tie.Need-returns
+returns c = chain._▹_ (c .before .before .before .before .before .before .before .nl .ensures) (c .before .before .comments .ensures)
+
+pub before-line-spec : {M : Type 1} → statement M
+before-line-spec =
+    tie.close
+    (tie.spec
+    (λ c κs. search needs)
+    (λ c κs. search needs)
+    same-length
+    returns)

@@ -1,0 +1,5 @@
+pub mod LentLaws
+pub mod DecodeLaws
+pub mod ServeLaws
+pub mod Unique
+pub mod RunLaws

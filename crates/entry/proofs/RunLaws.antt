@@ -1,0 +1,157 @@
+-- Runs: a plan keeps every byte below the output's length, so that what the code leaves at a run's end is what the meaning's run leaves.
+-- Assumes nothing.
+use mathlib.Core.Path.{_≡_, refl, sym, ap, _∙_}
+use mathlib.Core.Bool.{Bool, true, false, _||_}
+use mathlib.Core.List.{List, [], _∷_, _++_}
+use Prim.Native.Nat.{ℕ, zero, suc, _+_, _-_, _*_, _≤_, _<_}
+use native.Mathlib.Omega.{arith}
+use lib.ListN.{length, take, set, replicate}
+use lib.Dec.{ltb}
+use lib.Seq.{sets, take-set-le, take-all, drop-length, sets-eq}
+use lib.ListN.{drop, length-replicate}
+use mathlib.Core.List.{append-nil}
+use Rattle.tree.specs.declared.record.RecordNo.{RecordNo}
+use Rattle.tree.specs.Opening.{opened}
+use Rattle.tree.specs.declared.record.Record.{Record}
+use Rattle.tree.specs.Records.{records}
+use Rattle.tree.specs.Table.{treeOf, Decoded}
+use Rattle.meaning.specs.declared.answer.Refusal.{Refusal}
+use Rattle.meaning.specs.declared.call.Call.{Call}
+use Rattle.meaning.specs.declared.answer.Refusal.the-variants.{NoRoom, QueueFull, IndentOut, Finished}
+use Rattle.meaning.specs.declared.answer.Answer.{Answer}
+use Rattle.meaning.specs.declared.answer.Answer.the-variants.{Done, Refused}
+use Rattle.meaning.specs.State.{Script, State}
+use Rattle.meaning.specs.Pieces.{Piece, flat}
+use Rattle.meaning.specs.Outcome.{Outcome, done, refused, refuseIf}
+use Rattle.meaning.specs.Calls.{step}
+use Rattle.meaning.specs.World.{World, world, capacity, Result, result, made}
+use Rattle.meaning.specs.Plan.{Plan, nothing, make, refuse, _then_, exec, zeroed, putBack, answerOf, ready, run, Ran}
+use Rattle.meaning.specs.Lent.{anyOutside, lentState}
+use Rattle.meaning.specs.Opening.{answerTo, scriptIn}
+use Rattle.meaning.proofs.Step.{fair}
+use Rattle.meaning.proofs.Chain.{keeps}
+use Rattle.queue.specs.declared.run.Run.{Run}
+use Rattle.entry.specs.declared.state.State as code
+use Rattle.entry.specs.declared.state.Step.{Step}
+use Rattle.queue.specs.Run.{readyAnswer, readyRun}
+use Rattle.queue.specs.View.{ringAt, queueOf, view, resultOf, scriptOf}
+use Rattle.entry.specs.Served.{startedRun, stateOf, leftOf, checkedAnswer, lentAnswer, lentRun, Served}
+use Rattle.entry.specs.Ended.{endedBuffer, Ended, runLeft}
+use Rattle.queue.proofs.TabLaws.{length-tab}
+use Rattle.entry.proofs.ServeLaws.{either-script, lent-refused}
+
+-- ---- bytes below the output's length stay
+
+below-sets : (n : ℕ) (l vs : List ℕ) (i : ℕ) → n ≤ i → take n (sets l i vs) ≡ take n l
+below-sets n l [] i h = refl
+below-sets n l (v ∷ vs) i h = below-sets n (set l i v) vs (suc i) (omega arith) ∙ take-set-le n l i v h
+
+-- so many bytes are as they were, and the output is no shorter
+record Kept (n : ℕ) (w w′ : World) : Type 0 where
+  same : take n (w′ .buffer) ≡ take n (w .buffer)
+  more : n ≤ w′ .state .len
+
+made-kept : (x : Script) (n : ℕ) (w : World) (c : Call) → n ≤ w .state .len → (o : Outcome) → step x (capacity w) (w .state) c ≡ o → Kept n w (made w o .left)
+made-kept x n w c h (done s ps) e = record { same = below-sets n (w .buffer) (flat ps) (w .state .len) h; more = omega (arith, fair x (capacity w) c e .grew) }
+made-kept x n w c h (refused r) e = record { same = refl; more = h }
+
+exec-kept : (x : Script) (p : Plan) (n : ℕ) (a : Answer) (w : World) → n ≤ w .state .len → Kept n w (exec x p (result a w) .left)
+unfolding exec
+exec-kept x nothing n a w h = record { same = refl; more = h }
+exec-kept x (make c) n Done w h = made-kept x n w c h (step x (capacity w) (w .state) c) refl
+exec-kept x (make c) n (Refused r) w h = record { same = refl; more = h }
+exec-kept x (refuse e) n Done w h = record { same = refl; more = h }
+exec-kept x (refuse e) n (Refused r) w h = record { same = refl; more = h }
+exec-kept x (p then q) n a w h =
+    let f = exec-kept x p n a w h in
+    let g = exec-kept x q n (exec x p (result a w) .answer) (exec x p (result a w) .left) (f .more) in
+    record { same = g .same ∙ f .same; more = g .more }
+
+-- ---- zeroing
+
+zeroed-same : (n : ℕ) (b b₀ : List ℕ) → take n b ≡ take n b₀ → length b ≡ length b₀ → zeroed n b ≡ zeroed n b₀
+unfolding zeroed
+zeroed-same n b b₀ e l = rw (e, l)
+
+pub zero-all : (n : ℕ) (b b′ : List ℕ) → n ≤ length b → b′ ≡ sets b n (replicate (length b - n) 0) → b′ ≡ zeroed n b
+unfolding zeroed
+zero-all n b b′ h e =
+    let l : n + length (replicate {A = ℕ} (length b - n) 0) ≡ length b = omega (arith, length-replicate {A = ℕ} (length b - n) 0) in
+    e ∙ sets-eq (replicate (length b - n) 0) b n (omega arith) ∙ rw (l, drop-length b, append-nil)
+
+pub zero-none : (n : ℕ) (b : List ℕ) → length b ≤ n → b ≡ zeroed n b
+unfolding zeroed
+zero-none n b h = let z : length b - n ≡ 0 = omega arith in rw (z, append-nil, take-all n b h)
+
+-- ---- a run's start: the checks on what is lent, then 10
+
+four-tests : (t4 t5 t6 t10 : Bool) (r : Run) (s : State) → readyAnswer (checkedAnswer t4 t5 t6 r) t10 (r .len)
+    ≡ answerOf (refuseIf t4 (NoRoom (r .len)) (refuseIf t5 (QueueFull (record { 0 = 8192 })) (refuseIf t6 (IndentOut (r .indent)) (refuseIf t10 (Finished (r .len)) (done s [])))))
+unfolding refuseIf
+four-tests true t5 t6 t10 r s = refl
+four-tests false true t6 t10 r s = refl
+four-tests false false true t10 r s = refl
+four-tests false false false true r s = refl
+four-tests false false false false r s = refl
+
+ready-at : (a : Answer) (x : Script) (r : Run) (q b : List ℕ)
+    → readyAnswer (lentAnswer a (ltb (length b) (r .len)) (ltb 256 (r .count) || anyOutside (x .source) (queueOf q (r .head) (r .count))) (ltb 64 (r .indent)) r) (r .finished) (r .len)
+    ≡ ready a x (world (view r q) b)
+unfolding ready lentState
+ready-at Done x r q b =
+    let n : length (queueOf q (r .head) (r .count)) ≡ r .count = length-tab (ringAt q) (r .head) (r .count) in
+    rw n (four-tests (ltb (length b) (r .len)) (ltb 256 (r .count) || anyOutside (x .source) (queueOf q (r .head) (r .count))) (ltb 64 (r .indent)) (r .finished) r (view r q))
+ready-at (Refused e) x r q b = refl
+
+pub ready-is : (x : Script) (s : code.State) (b : List ℕ) (a : Answer) → readyRun (lentRun (x .source) (s .queue) (length b) (startedRun (s .now) a)) .answer ≡ ready a x (world (stateOf s) b)
+unfolding readyRun lentRun
+ready-is x s b a = ready-at a x (startedRun (s .now) a) (s .queue) b
+
+-- ---- a run's end
+
+-- by the answer of the plan, with the state t and the buffer b left
+back : (s : code.State) (b₀ b : List ℕ) (a : Answer) (t : State) (z : Step) (b′ : List ℕ) → take (s .now .len) b ≡ take (s .now .len) b₀ → length b ≡ length b₀
+    → z ≡ leftOf s a t → b′ ≡ endedBuffer a (s .now .len) b → Served s z b′ (putBack (world (stateOf s) b₀) (result a (world t b)))
+back s b₀ b Done t z b′ et el ez eb = record { step = ez; buffer = eb }
+back s b₀ b (Refused e) t z b′ et el ez eb = record { step = ez; buffer = eb ∙ zeroed-same (s .now .len) b b₀ et el }
+
+-- a rule's plan, begun as a run begins and ended by `ended`, is the meaning's run
+pub run-is : (opening : Answer) {x : Script} {p : Plan} {s : code.State} {b₀ : List ℕ} (go : Run) {r : Run} {q b : List ℕ} {z : Step} {b′ : List ℕ}
+    → go .answer ≡ ready opening x (world (stateOf s) b₀) → view go (s .queue) ≡ stateOf s → Ran x p (resultOf go (s .queue) b₀) (resultOf r q b) → Ended s r q b z b′ → Served s z b′ (run opening x (world (stateOf s) b₀) p)
+unfolding run
+run-is opening {x} {p} {s} {b₀} go {r} {q} {b} {z} {b′} ea ev h k =
+    let e : resultOf r q b ≡ exec x p (result (ready opening x (world (stateOf s) b₀)) (world (stateOf s) b₀)) = h .ran ∙ rw (ea, ev) in
+    let f = exec-kept x p (s .now .len) (ready opening x (world (stateOf s) b₀)) (world (stateOf s) b₀) (omega arith) in
+    let c : take (s .now .len) b ≡ take (s .now .len) b₀ = ap (λ (y : Result). take (s .now .len) (y .left .buffer)) e ∙ f .same in
+    rw (← e) (back s b₀ b (r .answer) (view r q) z b′ c (keeps h) (k .step) (k .buffer))
+
+-- the same over the lent bytes: the table is decoded, the checks are made, and the plan runs on what they leave
+module _ (src list words table : List ℕ) (n : RecordNo) (d : Decoded list words (n .0) table) (room : length words ≡ 32768) (s : code.State) (b₀ : List ℕ) {a₀ : Answer} (ea : a₀ ≡ answerTo (opened src list))
+    {r₀ r₁ go : Run} (e₀ : r₀ ≡ startedRun (s .now) a₀) (e₁ : r₁ ≡ lentRun src (s .queue) (length b₀) r₀) (eg : go ≡ readyRun r₁) where
+  start : Run
+  start = readyRun (lentRun src (s .queue) (length b₀) (startedRun (s .now) a₀))
+
+  go-is : go ≡ start
+  unfolding start
+  go-is = eg ∙ ap readyRun (e₁ ∙ ap (lentRun src (s .queue) (length b₀)) e₀)
+
+  still-refused : (e : Refusal) → answerTo (opened src list) ≡ Refused e → start .answer ≡ Refused e
+  unfolding start readyRun lentRun
+  still-refused e h = rw (lent-refused a₀ (ltb (length b₀) (s .now .len)) (ltb 256 (s .now .count) || anyOutside src (queueOf (s .queue) 0 (s .now .count))) (ltb 64 (s .now .indent)) (startedRun (s .now) a₀) e (ea ∙ h))
+
+  same-view : view start (s .queue) ≡ stateOf s
+  unfolding start readyRun lentRun
+  same-view = refl
+
+  begins : start .answer ≡ ready a₀ (scriptIn src list) (world (stateOf s) b₀)
+  unfolding start
+  begins = ready-is (scriptIn src list) s b₀ a₀
+
+  -- the plan may hang on the tree
+  pub serve-run : (p : List Record → Plan) {tb : List ℕ} {r : Run} {q b : List ℕ} {z : Step} {b′ : List ℕ} → tb ≡ take (n .0 * 4) table → Ran (scriptOf src tb) (p (treeOf tb)) (resultOf go (s .queue) b₀) (resultOf r q b) → Ended s r q b z b′
+      → Served s z b′ (runLeft src list s b₀ (p (records list)))
+  serve-run p {tb} {r} {q} {b} {z} {b′} et h k =
+      let e : resultOf r q b ≡ exec (scriptIn src list) (p (records list)) (resultOf start (s .queue) b₀) =
+      h .ran ∙ ap (λ (g : Run). exec (scriptOf src tb) (p (treeOf tb)) (resultOf g (s .queue) b₀)) go-is
+      ∙ rw et (either-script src list words table n d room p (opened src list) refl (start .answer) (world (view start (s .queue)) b₀) still-refused) in
+      rw (← ea) (run-is a₀ start begins same-view (record { ran = e }) k)

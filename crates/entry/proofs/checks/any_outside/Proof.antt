@@ -1,0 +1,45 @@
+-- `entry::checks::any_outside` meets its contract. The invariant: the rest says what the whole says. Assumes nothing.
+use Prim.Native.Nat.{_+_, _-_, _≤_}
+use Rattle.meaning.specs.Lent.{anyOutside}
+use Rattle.queue.specs.View.{queueOf}
+use Rattle.entry.proofs.LentLaws.{outside-here, outside-more}
+use Rattle.queue.proofs.RingLaws.{ring-next}
+use Rattle.queue.proofs.TabLaws.{tab-all, tab-none}
+use mathlib.Core.Path.{_∙_, _≡_, ap, sym}
+use borrow.Author.Needs.{needs}
+use native.Mathlib.Omega.{arith}
+use Rattle.entry.proofs.checks.any_outside.Statement.{statement}
+use Rattle.entry.proofs.checks.any_outside.Tie as tie
+
+abbrev Inv-loop : tie.InvT-loop
+Inv-loop src queue head count i₀ i = (i ≤ count) × (anyOutside src (queueOf queue (head + i) (count - i)) ≡ anyOutside src (queueOf queue head count))
+
+abbrev μ-loop : tie.MeasureT-loop
+μ-loop src queue head count i₀ i = count - i
+
+loop-holds : tie.Need-loop-holds Inv-loop μ-loop
+loop-holds c = (search needs, ap (anyOutside (c .before .args .src .now)) (tab-all _ _ _))
+
+loop-again : tie.Need-loop-again Inv-loop μ-loop
+loop-again c = (omega arith, sym (outside-more _ _ _ _ (ring-next (c .before .before .before .before .before .before .args .queue .now) (c .before .before .before .before .before .before .args .head) (c .before .before .before .before .before .before .args .count) (c .before .before .before .before .loop .i) _ (c .before .before .before .loop-test .taken) (c .before .before .comment-at .ensures)) (sym (c .before .in-source .ensures) ∙ c .if1 .taken)) ∙ c .before .before .before .before .loop .inv .1)
+
+returns : tie.Need-returns Inv-loop μ-loop
+returns c = outside-here _ _ _ _ (ring-next (c .before .before .before .before .before .before .args .queue .now) (c .before .before .before .before .before .before .args .head) (c .before .before .before .before .before .before .args .count) (c .before .before .before .before .loop .i) _ (c .before .before .before .loop-test .taken) (c .before .before .comment-at .ensures)) (sym (c .before .in-source .ensures) ∙ c .if1 .left) ∙ c .before .before .before .before .loop .inv .1
+
+returns-2 : tie.Need-returns-2 Inv-loop μ-loop
+returns-2 c = ap (anyOutside (c .before .before .before .args .src .now)) (sym (tab-none _ (c .before .before .before .args .head) (c .before .before .before .args .count) (c .before .loop .i) (c .loop-test .left))) ∙ c .before .loop .inv .1
+
+pub any-outside-spec : {M : Type 1} → statement M
+any-outside-spec =
+    tie.close
+    (tie.spec
+    Inv-loop
+    μ-loop
+    loop-holds
+    (λ c κs. search needs)
+    (λ c κs. search needs)
+    (λ c. search needs)
+    (λ c. search needs)
+    loop-again
+    returns
+    returns-2)

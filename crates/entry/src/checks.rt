@@ -1,0 +1,66 @@
+// The checks on what is lent, before all else: 1, 2, 3, 7 as at opening, then 4, 5, 6 on the state.
+use meaning::answer::Answer;
+use meaning::answer::Refusal;
+use queue::ring::comment_at;
+use queue::run::Run;
+use text::chars::in_source;
+use tree::open::Opening;
+use tree::record::RecordNo;
+ghost use mathlib.Core.Path.{_≡_};
+ghost use Rattle.tree.specs.Opening.{opened};
+ghost use Rattle.meaning.specs.Lent.{anyOutside};
+ghost use Rattle.meaning.specs.Opening.{answerTo};
+ghost use Rattle.queue.specs.View.{queueOf};
+ghost use Rattle.entry.specs.Served.{lentRun};
+
+// What opening answers to a source and a tree.
+pub fn opening(source: &[u8], tree: &[u8]) -> Answer
+    ensures { λ r. ⌜ r ≡ answerTo (opened (now (source .entry)) (now (tree .entry))) ⌝ }
+{
+    let o = tree::open::open(source, tree);
+    match o {
+        Opening::Good(_) => Answer::Done,
+        Opening::SourceLong => Answer::Refused(Refusal::SourceLong),
+        Opening::SourceIll(p) => Answer::Refused(Refusal::SourceIll(p)),
+        Opening::TreeBad(i) => Answer::Refused(Refusal::TreeBad(i)),
+        Opening::TreeDeep(i) => Answer::Refused(Refusal::TreeDeep(i)),
+    }
+}
+
+// Does a waiting span lie outside the source, or across a character?
+fn any_outside(src: &[u8], queue: &[u32; 1024], head: u32, count: u32) -> bool
+    ensures { λ r. ⌜ r ≡ anyOutside (now (src .entry)) (queueOf (now (queue .entry)) head count) ⌝ }
+{
+    let mut i: u32 = 0;
+    while i < count {
+        let c = comment_at(queue, head, i);
+        if in_source(src, c.span) {
+            i += 1;
+        } else {
+            return true;
+        }
+    }
+    false
+}
+
+// 4, 5, 6, where the buffer has `cap` bytes.
+pub fn lent(src: &[u8], queue: &[u32; 1024], cap: usize, run: Run) -> Run
+    ensures { λ r. ⌜ r ≡ lentRun (now (src .entry)) (now (queue .entry)) cap run ⌝ }
+{
+    if run.stopped() {
+        return run;
+    }
+    if cap < run.len {
+        return run.refused(Refusal::NoRoom(run.len));
+    }
+    if 256 < run.count {
+        return run.refused(Refusal::QueueFull(RecordNo(8192)));
+    }
+    if any_outside(src, queue, run.head, run.count) {
+        return run.refused(Refusal::QueueFull(RecordNo(8192)));
+    }
+    if 64 < run.indent {
+        return run.refused(Refusal::IndentOut(run.indent));
+    }
+    run
+}

@@ -1,0 +1,16 @@
+-- `format::at_least::is_at_least` meets its contract. Assumes nothing.
+use Rattle.format.proofs.AtLeastLaws.{at-least}
+use borrow.Author.Needs.{needs}
+use Rattle.format.proofs.at_least.is_at_least.Statement.{statement}
+use Rattle.format.proofs.at_least.is_at_least.Tie as tie
+
+returns : tie.Need-returns
+returns c = at-least (c .before .before .before .args .src .now) (c .before .before .before .args .span) (c .before .before .before .args .n) (c .before .part .ensures) (c .count .ensures)
+
+pub is-at-least-spec : {M : Type 1} → statement M
+is-at-least-spec =
+    tie.close
+    (tie.spec
+    (λ c κs. search needs)
+    (λ c κs. search needs)
+    returns)

@@ -1,0 +1,21 @@
+-- `format::items::args_node` meets its contract. Assumes nothing.
+use Rattle.tree.specs.Table.{treeOf}
+use Rattle.steps.proofs.FlowLaws.{parsed}
+use Rattle.patterns.specs.Pattern.{fnArgs}
+use borrow.Author.Needs.{needs}
+use Rattle.format.proofs.items.args_node.Statement.{statement}
+use Rattle.format.proofs.items.args_node.Tie as tie
+
+returns : tie.Need-returns
+returns c = let rs = treeOf (c .before .before .before .before .before .before .before .before .before .before .args .table .now) in
+    parsed rs (fnArgs rs) (c .before .before .before .before .records-of .ensures) (c .before .before .before .fn-args .ensures) (c .left-over .ensures .ran _ (c .before .before .before .fn-args .last .1 .1 .0) (c .before .before .before .fn-args .last .1 .1 .1 .0))
+
+pub args-node-spec : {M : Type 1} → statement M
+args-node-spec =
+    tie.close
+    (tie.spec
+    (λ c κs. search needs)
+    (λ c κs. search needs)
+    (λ c κs. search needs)
+    (λ c. search needs)
+    returns)

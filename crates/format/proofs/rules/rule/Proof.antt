@@ -1,0 +1,35 @@
+-- `format::rules::rule` meets its contract. Assumes nothing.
+use Rattle.kinds.specs.Facts.{byteOf, factsOf}
+use Rattle.steps.proofs.RuleLaws.{if-so, if-not}
+use Rattle.format.specs.Rules.{rule}
+use borrow.Author.Needs.{needs}
+use Rattle.format.proofs.rules.rule.Statement.{statement}
+use Rattle.format.proofs.rules.rule.Tie as tie
+
+returns : tie.Need-returns
+unfolding rule byteOf factsOf
+returns c = if-so _ _ (c .before .before .before .before .before .before .is-kind .ensures) (c .before .before .before .before .before .if1 .taken) (c .before .before .path .ensures)
+
+returns-2 : tie.Need-returns-2
+unfolding rule byteOf factsOf
+returns-2 c = if-not _ _ (c .before .before .before .before .before .before .before .before .is-kind .ensures) (c .before .before .before .before .before .before .before .if1 .left) (if-so _ _ (c .before .before .before .before .before .before .is-kind2 .ensures) (c .before .before .before .before .before .if2 .taken) (c .before .before .path-generics .ensures))
+
+returns-3 : tie.Need-returns-3
+unfolding rule byteOf factsOf
+returns-3 c = if-not _ _ (c .before .before .before .before .before .before .before .before .is-kind .ensures) (c .before .before .before .before .before .before .before .if1 .left) (if-not _ _ (c .before .before .before .before .before .before .is-kind2 .ensures) (c .before .before .before .before .before .if2 .left) (c .before .before .pattern-rule .ensures))
+
+pub rule-spec : {M : Type 1} → statement M
+rule-spec =
+    tie.close
+    (tie.spec
+    (λ c κs. search needs)
+    (λ c κs. search needs)
+    (λ c. search needs)
+    returns
+    (λ c κs. search needs)
+    (λ c κs. search needs)
+    (λ c. search needs)
+    returns-2
+    (λ c κs. search needs)
+    (λ c. search needs)
+    returns-3)

@@ -1,0 +1,29 @@
+-- `format::runs::layout` meets its contract. Assumes nothing.
+use mathlib.Core.Path.{refl}
+use lib.ListN.{length}
+use borrow.Author.Tests.{le-leb, lt-leb}
+use Rattle.tree.specs.Table.{treeOf}
+use Rattle.steps.proofs.RuleLaws.{if-so, if-not}
+use Rattle.format.specs.Rules.{layout}
+use borrow.Author.Needs.{needs}
+use native.Mathlib.Omega.{arith}
+use Rattle.format.proofs.runs.layout.Statement.{statement}
+use Rattle.format.proofs.runs.layout.Tie as tie
+
+returns : tie.Need-returns
+unfolding layout
+returns c = if-so _ _ refl (le-leb (length (treeOf (c .before .before .before .before .before .before .before .before .args .table .now))) (c .before .before .before .before .before .before .before .before .args .k .0) (omega (arith, c .before .before .before .before .size .ensures, c .before .if1 .taken))) (c .refuse .ensures .ran _ (c .before .before .before .before .before .before .before .before .args .queue .now) (c .before .before .before .before .before .before .before .before .args .out .now))
+
+returns-2 : tie.Need-returns-2
+unfolding layout
+returns-2 c = if-not _ _ refl (lt-leb (length (treeOf (c .before .before .before .before .before .before .before .before .before .before .before .before .args .table .now))) (c .before .before .before .before .before .before .before .before .before .before .before .before .args .k .0) (omega (arith, c .before .before .before .before .before .before .before .before .size .ensures, c .before .before .before .before .before .if1 .left))) (c .before .before .rule .ensures)
+
+pub layout-spec : {M : Type 1} → statement M
+layout-spec =
+    tie.close (tie.spec
+    (λ c κs. search needs)
+    (λ c κs. search needs)
+    returns
+    (λ c κs. search needs)
+    (λ c. search needs)
+    returns-2)

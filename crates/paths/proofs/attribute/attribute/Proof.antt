@@ -1,0 +1,17 @@
+-- `paths::attribute::attribute` meets its contract. Assumes nothing.
+use Rattle.steps.proofs.FlowLaws.{steady, _▹_}
+use borrow.Author.Needs.{needs}
+use Rattle.paths.proofs.attribute.attribute.Statement.{statement}
+use Rattle.paths.proofs.attribute.attribute.Tie as tie
+
+returns : tie.Need-returns
+returns c = c .before .before .before .before .before .before .before .before .any .ensures ▹ steady (c .before .before .nl .ensures)
+
+pub attribute-spec : {M : Type 1} → statement M
+attribute-spec =
+    tie.close
+    (tie.spec
+    (λ c κs. search needs)
+    (λ c κs. search needs)
+    (λ c. search needs)
+    returns)

@@ -1,0 +1,20 @@
+-- `paths::modifier::list_node` meets its contract. Assumes nothing.
+use Rattle.tree.specs.Table.{treeOf}
+use Rattle.steps.proofs.FlowLaws.{parsed}
+use Rattle.paths.specs.Attribute.{modifierList}
+use borrow.Author.Needs.{needs}
+use Rattle.paths.proofs.modifier.list_node.Statement.{statement}
+use Rattle.paths.proofs.modifier.list_node.Tie as tie
+
+returns : tie.Need-returns
+returns c = parsed (treeOf (c .before .before .before .before .before .before .before .before .before .before .args .table .now)) (modifierList (treeOf (c .before .before .before .before .before .before .before .before .before .before .args .table .now))) (c .before .before .before .before .records-of .ensures) (c .before .before .before .modifier-list .ensures) (c .left-over .ensures .ran _ (c .before .before .before .modifier-list .last .1 .1 .0) (c .before .before .before .modifier-list .last .1 .1 .1 .0))
+
+pub list-node-spec : {M : Type 1} → statement M
+list-node-spec =
+    tie.close
+    (tie.spec
+    (λ c κs. search needs)
+    (λ c κs. search needs)
+    (λ c κs. search needs)
+    (λ c. search needs)
+    returns)

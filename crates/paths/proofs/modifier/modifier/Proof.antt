@@ -1,0 +1,42 @@
+-- `paths::modifier::modifier` meets its contract. Assumes nothing.
+use Rattle.kinds.specs.Facts.{byteOf, factsOf}
+use Rattle.steps.proofs.RuleLaws.{if-so, if-not}
+use Rattle.paths.specs.Attribute.{modifier}
+use borrow.Author.Needs.{needs}
+use Rattle.paths.proofs.modifier.modifier.Statement.{statement}
+use Rattle.paths.proofs.modifier.modifier.Tie as tie
+
+returns : tie.Need-returns
+unfolding modifier byteOf factsOf
+returns c = if-so _ _ (c .before .before .before .before .before .before .is-word .ensures) (c .before .before .before .before .before .if1 .taken) (c .before .before .word-node .ensures)
+
+returns-2 : tie.Need-returns-2
+unfolding modifier byteOf factsOf
+returns-2 c = if-not _ _ (c .before .before .before .before .before .before .before .before .is-word .ensures) (c .before .before .before .before .before .before .before .if1 .left) (if-so _ _ (c .before .before .before .before .before .before .is-kind .ensures) (c .before .before .before .before .before .if2 .taken) (c .before .before .in-node .ensures))
+
+returns-3 : tie.Need-returns-3
+unfolding modifier byteOf factsOf
+returns-3 c = if-not _ _ (c .before .before .before .before .before .before .is-word .ensures) (c .before .before .before .before .before .if1 .left) (if-not _ _ (c .before .before .before .before .is-kind .ensures) (c .before .before .before .if2 .left) (if-so _ _ (c .before .before .is-kind2 .ensures) (c .before .if3 .taken) (c .refuse .ensures .ran _ (c .before .before .before .before .before .before .before .before .before .before .args .queue .now) (c .before .before .before .before .before .before .before .before .before .before .args .out .now))))
+
+returns-4 : tie.Need-returns-4
+unfolding modifier byteOf factsOf
+returns-4 c = if-not _ _ (c .before .before .before .before .before .before .before .before .before .before .is-word .ensures) (c .before .before .before .before .before .before .before .before .before .if1 .left) (if-not _ _ (c .before .before .before .before .before .before .before .before .is-kind .ensures) (c .before .before .before .before .before .before .before .if2 .left) (if-not _ _ (c .before .before .before .before .before .before .is-kind2 .ensures) (c .before .before .before .before .before .if3 .left) (c .before .before .write-apart .ensures)))
+
+pub modifier-spec : {M : Type 1} → statement M
+modifier-spec =
+    tie.close
+    (tie.spec
+    (λ c κs. search needs)
+    (λ c κs. search needs)
+    (λ c. search needs)
+    returns
+    (λ c κs. search needs)
+    (λ c κs. search needs)
+    (λ c. search needs)
+    returns-2
+    (λ c κs. search needs)
+    (λ c κs. search needs)
+    returns-3
+    (λ c κs. search needs)
+    (λ c. search needs)
+    returns-4)

@@ -1,0 +1,18 @@
+-- `paths::modifier::modifier_turn` meets its contract. Assumes nothing.
+use Rattle.tree.specs.Table.{treeOf}
+use Rattle.paths.proofs.ModifierLaws.{turned}
+use borrow.Author.Needs.{needs}
+use Rattle.paths.proofs.modifier.modifier_turn.Statement.{statement}
+use Rattle.paths.proofs.modifier.modifier_turn.Tie as tie
+
+returns : tie.Need-returns
+returns c = turned (treeOf (c .before .before .before .before .before .before .before .before .before .before .before .args .table .now)) (c .before .before .before .before .before .before .before .before .before .before .before .args .s) (c .before .before .before .before .before .next-modifier .ensures) (c .one-more .ensures)
+
+pub modifier-turn-spec : {M : Type 1} → statement M
+modifier-turn-spec =
+    tie.close
+    (tie.spec
+    (λ c κs. search needs)
+    (λ c κs. search needs)
+    (λ c. search needs)
+    returns)

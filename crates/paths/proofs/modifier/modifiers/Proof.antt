@@ -1,0 +1,32 @@
+-- `paths::modifier::modifiers` meets its contract. Assumes nothing.
+use Rattle.tree.specs.Table.{treeOf}
+use Rattle.meaning.proofs.Chain as chain
+use Rattle.kinds.specs.Facts.{byteOf, factsOf}
+use Rattle.steps.specs.Stream.{streamOf}
+use Rattle.steps.specs.Flow.{parse}
+use Rattle.steps.proofs.RuleLaws.{eaten-at, eaten-none}
+use Rattle.kinds.specs.declared.Kind.{Kind}
+use Rattle.paths.specs.Attribute.{modifierList, modifiers}
+use borrow.Author.Needs.{needs}
+use Rattle.paths.proofs.modifier.modifiers.Statement.{statement}
+use Rattle.paths.proofs.modifier.modifiers.Tie as tie
+
+returns : tie.Need-returns
+unfolding modifiers byteOf factsOf
+returns c = eaten-at (treeOf (c .before .before .before .before .before .before .before .before .before .before .before .before .before .args .table .now)) (byteOf Kind.Modifiers) (parse (treeOf (c .before .before .before .before .before .before .before .before .before .before .before .before .before .args .table .now)) (modifierList (treeOf (c .before .before .before .before .before .before .before .before .before .before .before .before .before .args .table .now)))) (streamOf (treeOf (c .before .before .before .before .before .before .before .before .before .before .before .before .before .args .table .now)) (c .before .before .before .before .before .before .before .before .before .before .before .before .before .args .p)) (c .before .before .before .before .before .before .before .before .before .eat .ensures) (c .before .before .before .before .before .before .found .given .1) (c .before .before .list-node .ensures)
+
+returns-2 : tie.Need-returns-2
+unfolding modifiers byteOf factsOf
+returns-2 c = eaten-none (treeOf (c .before .before .before .before .before .before .before .args .table .now)) (byteOf Kind.Modifiers) (parse (treeOf (c .before .before .before .before .before .before .before .args .table .now)) (modifierList (treeOf (c .before .before .before .before .before .before .before .args .table .now)))) (streamOf (treeOf (c .before .before .before .before .before .before .before .args .table .now)) (c .before .before .before .before .before .before .before .args .p)) (c .before .before .before .eat .ensures) (c .enum-told .given .1) chain.still
+
+pub modifiers-spec : {M : Type 1} → statement M
+modifiers-spec =
+    tie.close
+    (tie.spec
+    (λ c κs. search needs)
+    (λ c. search needs)
+    (λ c κs. search needs)
+    (λ c. search needs)
+    (λ c. search needs)
+    returns
+    returns-2)

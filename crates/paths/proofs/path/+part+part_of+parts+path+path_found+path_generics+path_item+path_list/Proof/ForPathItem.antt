@@ -1,0 +1,33 @@
+-- What `path-item` needs.
+use borrow.Author.Needs.{needs}
+use mathlib.Core.Path.{_∙_}
+use Rattle.tree.specs.Table.{treeOf}
+use Rattle.steps.specs.Stream.{takeAny}
+use Rattle.steps.specs.Flow.{pump, notMet}
+use Rattle.steps.specs.Items.{turn, listed, items}
+use Rattle.paths.specs.Path.{path}
+use Rattle.meaning.proofs.Chain as chain
+use Rattle.steps.proofs.FlowLaws.{_▹_, steady, stepped, keeps}
+use Rattle.steps.proofs.ItemLaws.{itemed}
+use Prim.Native.Nat.{ℕ}
+use Rattle.steps.proofs.items.before_item.Reads as before-item-reads
+use Rattle.steps.proofs.items.behind_item.Reads as behind-item-reads
+use Rattle.paths.proofs.path.path_found.Reads as path-found
+use Rattle.paths.proofs.path.path_item.Reads as path-item
+use Rattle.steps.proofs.stream.take_any.Reads as take-any-reads
+use Rattle.paths.proofs.path.+part+part_of+parts+path+path_found+path_generics+path_item+path_list.Lts-path_item as lts
+use Rattle.paths.proofs.path.+part+part_of+parts+path+path_found+path_generics+path_item+path_list.Proof.At.{path-item-at, path-found-below}
+
+module _ (t : ℕ) where
+  abbrev claims : lts.Claims
+  claims = (before-item-reads.Asked, before-item-reads.Learnt, take-any-reads.Asked, take-any-reads.Learnt, path-found-below t, path-found.Post, behind-item-reads.Asked, behind-item-reads.Learnt)
+
+  same-length : lts.Need-same-length claims (path-item-at t) path-item.Post
+  same-length c = keeps (c .before .before .behind-item .ensures) ∙ chain.keeps (c .before .before .before .before .before .before .before .path-found .ensures) ∙ chain.keeps (c .before .before .before .before .before .before .before .before .before .before .before .before .before .before .before-item .ensures)
+
+  returns : lts.Need-returns claims (path-item-at t) path-item.Post
+  unfolding turn listed pump
+  returns c = itemed (treeOf (c .before .before .before .before .before .before .before .before .before .before .before .before .before .before .before .before .before .before .before .before .args .table .now)) (c .before .before .before .before .before .before .before .before .before .before .before .before .before .before .before .before .before .before .before .before .args .s) _ (steady (c .before .before .before .before .before .before .before .before .before .before .before .before .before .before .before-item .ensures) ▹ stepped takeAny (path _ _) notMet (c .before .before .before .before .before .before .before .before .before .before .before .take-any .ensures .found) (c .before .before .before .before .before .before .before .before .before .before .before .take-any .ensures .rest) (c .before .before .before .before .before .before .before .path-found .ensures)) ▹ c .before .before .behind-item .ensures
+
+  pub closed : {M : Type 1} → lts.Closed claims (path-item-at t) path-item.Post M
+  closed = lts.spec claims (path-item-at t) path-item.Post (λ c κs. search needs) (λ c κs. search needs) (λ c κs. search needs) (λ c κs. search needs) same-length returns

@@ -1,0 +1,49 @@
+-- What `colon_pat` needs. Assumes nothing.
+use mathlib.Core.Path.{_∙_}
+use native.Mathlib.Omega.{arith}
+use Rattle.tree.specs.Table.{treeOf}
+use Rattle.kinds.specs.declared.Kind.{Kind}
+use Rattle.kinds.specs.Facts.{byteOf, factsOf}
+use Rattle.meaning.specs.declared.call.Call.the-variants.{Ws}
+use Rattle.meaning.proofs.Chain as chain
+use Rattle.steps.specs.Stream.{takeIf}
+use Rattle.steps.specs.Flow.{flow, _▸_, call, write, notMet, pump, expectByte, is, expect}
+use Rattle.meaning.specs.Plan.{nothing}
+use Rattle.patterns.specs.Pattern as rule
+use Rattle.patterns.specs.Pattern.{colonPat}
+use Rattle.steps.proofs.FlowLaws.{_▹_, steady, stepped, keeps}
+use Rattle.patterns.proofs.PatLaws.{next-yes, next-no, stands}
+use borrow.Author.Needs.{needs}
+use Prim.Native.Nat.{ℕ}
+use Rattle.steps.proofs.stream.any.Reads as any-reads
+use Rattle.patterns.proofs.pat.colon_pat.Reads as colon-pat
+use Rattle.steps.proofs.stream.eat.Reads as eat-reads
+use Rattle.steps.proofs.stream.next_is.Reads as next-is-reads
+use Rattle.patterns.proofs.pat.pat_found.Reads as pat-found
+use Rattle.output.proofs.calls.ws.Reads as ws-reads
+use Rattle.patterns.proofs.pat.+by_kind+child+colon_pat+object_item+object_items+object_turn+pat+pat_array+pat_found+pat_item+pat_items+pat_object+pat_tuple+pat_turn.Lts-colon_pat as lts
+use Rattle.patterns.proofs.pat.+by_kind+child+colon_pat+object_item+object_items+object_turn+pat+pat_array+pat_found+pat_item+pat_items+pat_object+pat_tuple+pat_turn.Proof.At.{colon-pat-at, pat-found-below}
+
+module _ (t : ℕ) where
+  abbrev claims : lts.Claims
+  claims = (next-is-reads.Asked, next-is-reads.Learnt, any-reads.Asked, any-reads.Learnt, ws-reads.Asked, ws-reads.Learnt, eat-reads.Asked, eat-reads.Learnt, pat-found-below t, pat-found.Post)
+
+  pat-found-requires : lts.Need-pat-found-requires claims (colon-pat-at t) colon-pat.Post
+  pat-found-requires c κs = (omega (arith, c .before .before .before .before .before .before .before .before .before .before .before .before .before .before .before .before .before .before .before .pre .0), tt)
+
+  returns : lts.Need-returns claims (colon-pat-at t) colon-pat.Post
+  unfolding colonPat expectByte byteOf factsOf
+  returns c = let rs = treeOf (c .before .before .before .before .before .before .before .before .before .before .before .before .before .before .before .before .before .before .before .before .before .before .args .table .now) in let inner = rule.pat rs (c .before .before .before .before .before .before .before .before .before .before .before .before .before .before .before .before .before .before .before .before .before .before .args .depth) in
+      next-yes (is rs Kind.Colon) (pump write ▸ call Ws ▸ expect rs Kind.Pat inner) (flow nothing) (c .before .before .before .before .before .before .before .before .before .before .before .before .before .before .before .before .before .before .next-is .ensures) (c .before .before .before .before .before .before .before .before .before .before .before .before .before .before .before .before .before .if1 .taken)
+      (c .before .before .before .before .before .before .before .before .before .before .before .before .before .before .any .ensures ▹ steady (c .before .before .before .before .before .before .before .before .before .ws .ensures) ▹ stepped (takeIf (is rs Kind.Pat)) inner notMet (c .before .before .before .before .before .before .eat .ensures .found) (c .before .before .before .before .before .before .eat .ensures .rest) (c .before .before .pat-found .ensures))
+
+  returns-2 : lts.Need-returns-2 claims (colon-pat-at t) colon-pat.Post
+  unfolding colonPat byteOf factsOf
+  returns-2 c = let rs = treeOf (c .before .before .before .before .before .args .table .now) in
+      next-no (is rs Kind.Colon) (pump write ▸ call Ws ▸ expect rs Kind.Pat (rule.pat rs (c .before .before .before .before .before .args .depth))) (flow nothing) (c .before .next-is .ensures) (c .if1 .left) stands
+
+  same-length : lts.Need-same-length claims (colon-pat-at t) colon-pat.Post
+  same-length c = chain.keeps (c .before .before .pat-found .ensures) ∙ chain.keeps (c .before .before .before .before .before .before .before .before .before .ws .ensures) ∙ keeps (c .before .before .before .before .before .before .before .before .before .before .before .before .before .before .any .ensures)
+
+  pub closed : {M : Type 1} → lts.Closed claims (colon-pat-at t) colon-pat.Post M
+  closed = lts.spec claims (colon-pat-at t) colon-pat.Post (λ c κs. search needs) (λ c κs. search needs) (λ c κs. search needs) (λ c κs. search needs) pat-found-requires same-length returns returns-2

@@ -1,0 +1,36 @@
+-- `patterns::pat_parts::object_name` meets its contract. Assumes nothing.
+use Rattle.tree.specs.Table.{treeOf}
+use Rattle.kinds.specs.Facts.{byteOf, factsOf}
+use Rattle.steps.specs.Flow.{call, expect, is, write, _▸_}
+use Rattle.steps.proofs.FlowLaws.{steady, _▹_}
+use Rattle.meaning.specs.declared.call.Call.the-variants.{Ws}
+use Rattle.kinds.specs.declared.Kind.{Kind}
+use Rattle.paths.specs.Path.{path}
+use Rattle.patterns.specs.Pattern.{objectName}
+use Rattle.patterns.proofs.PatLaws.{next-yes, next-no}
+use borrow.Author.Needs.{needs}
+use Rattle.patterns.proofs.pat_parts.object_name.Statement.{statement}
+use Rattle.patterns.proofs.pat_parts.object_name.Tie as tie
+
+returns : tie.Need-returns
+unfolding objectName byteOf factsOf
+returns c = let rs = treeOf (c .before .before .before .before .before .before .before .before .before .before .args .table .now) in
+    next-yes (is rs Kind.AnonymousObjectKey) (expect rs Kind.AnonymousObjectKey write) (expect rs Kind.Path (path rs 64) ▸ call Ws) (c .before .before .before .before .before .before .next-is .ensures) (c .before .before .before .before .before .if1 .taken) (c .before .before .token .ensures)
+
+returns-2 : tie.Need-returns-2
+unfolding objectName byteOf factsOf
+returns-2 c = let rs = treeOf (c .before .before .before .before .before .before .before .before .before .before .before .before .before .before .before .before .args .table .now) in
+    next-no (is rs Kind.AnonymousObjectKey) (expect rs Kind.AnonymousObjectKey write) (expect rs Kind.Path (path rs 64) ▸ call Ws) (c .before .before .before .before .before .before .before .before .before .before .before .before .next-is .ensures) (c .before .before .before .before .before .before .before .before .before .before .before .if1 .left) (c .before .before .before .before .before .before .before .before .next-path .ensures ▹ steady (c .before .before .ws .ensures))
+
+pub object-name-spec : {M : Type 1} → statement M
+object-name-spec =
+    tie.close
+    (tie.spec
+    (λ c κs. search needs)
+    (λ c κs. search needs)
+    (λ c. search needs)
+    returns
+    (λ c κs. search needs)
+    (λ c κs. search needs)
+    (λ c. search needs)
+    returns-2)

@@ -1,0 +1,28 @@
+-- `patterns::pat_parts::pat_or_dots` meets its contract. Assumes nothing.
+use Rattle.tree.specs.Table.{treeOf}
+use Rattle.kinds.specs.Facts.{byteOf, factsOf}
+use Rattle.steps.specs.Stream.{streamOf}
+use Rattle.steps.specs.Flow.{is}
+use Rattle.kinds.specs.declared.Kind.{Kind}
+use Rattle.patterns.specs.Pattern.{patOrDots}
+use Rattle.patterns.proofs.PatLaws.{either-first, either-second}
+use borrow.Author.Needs.{needs}
+use Rattle.patterns.proofs.pat_parts.pat_or_dots.Statement.{statement}
+use Rattle.patterns.proofs.pat_parts.pat_or_dots.Tie as tie
+
+returns : tie.Need-returns
+unfolding patOrDots byteOf factsOf
+returns c = either-first (is (treeOf (c .before .before .before .args .table .now)) Kind.Pat) (is (treeOf (c .before .before .before .args .table .now)) Kind.DotDot) (streamOf (treeOf (c .before .before .before .args .table .now)) (c .before .before .before .args .p)) (c .before .next-is .ensures) (c .if1 .taken)
+
+returns-2 : tie.Need-returns-2
+unfolding patOrDots byteOf factsOf
+returns-2 c = either-second (is (treeOf (c .before .before .before .before .args .table .now)) Kind.Pat) (is (treeOf (c .before .before .before .before .args .table .now)) Kind.DotDot) (streamOf (treeOf (c .before .before .before .before .args .table .now)) (c .before .before .before .before .args .p)) (c .before .before .next-is .ensures) (c .before .if1 .left) (c .next-is2 .ensures)
+
+pub pat-or-dots-spec : {M : Type 1} → statement M
+pat-or-dots-spec =
+    tie.close
+    (tie.spec
+    (λ c κs. search needs)
+    returns
+    (λ c κs. search needs)
+    returns-2)

@@ -1,0 +1,162 @@
+-- Collecting: what each record of the tree does to it, and the loop under way. Assumes nothing.
+use mathlib.Core.Path.{_≡_, refl, sym, ap, _∙_}
+use mathlib.Core.List.{List, [], _∷_, _++_, map, append-nil, append-assoc}
+use mathlib.Core.Bool.{Bool, true, false, cond}
+use Prim.Native.Nat.{ℕ, zero, suc, _+_, _-_, _<_, _≤_, min}
+use native.Mathlib.Nat.{min-eq-left, min-eq-right}
+use native.Mathlib.Numerals.{add-one}
+use native.Mathlib.Omega.{arith}
+use lib.ListN.{length, length-append, length-take, drop, take, getD, drop-of-length-le}
+use lib.Seq.{drop-cons, take-append-le}
+use lib.Dec.{eqb, leb}
+use borrow.Author.Tests.{leb-true, leb-false}
+use Rattle.text.specs.Span.{textOf}
+use Rattle.text.specs.Lines.{newlines}
+use Rattle.text.specs.declared.span.Span.{Span}
+use Rattle.tree.specs.declared.record.Record.{Record}
+use Rattle.tree.specs.Records.{cutRecord}
+use Rattle.tree.specs.Table.{nodeOf}
+use Rattle.meaning.specs.declared.answer.Refusal.the-variants.{QueueFull}
+use Rattle.meaning.specs.declared.answer.Answer.the-variants.{Done, Refused}
+use Rattle.meaning.specs.State.{Script, Note, Comment, queued, State, withQueue, withLines}
+use Rattle.meaning.specs.Outcome.{Outcome, refused}
+use Rattle.meaning.specs.Collect.{Entry, inner, remark, blank, stop, entryAt, entryOf, entriesFrom, Collected, full, got, before, orElse, collect, onGot, collected, gather}
+use Rattle.queue.specs.declared.run.Run.{Run}
+use Rattle.queue.specs.declared.collect.Entry as entry
+use Rattle.queue.specs.Run.{answered, collectedRun}
+use Rattle.queue.specs.View.{tab, ringAt, queueOf, view, asEntry}
+use Rattle.queue.specs.Parts.{Gathered, onAnswer}
+use Rattle.queue.proofs.TabLaws.{length-tab, take-tab}
+
+-- ---- what a record is to the collector
+
+pub at-inner : (below kind : ℕ) (span : Span) (n : ℕ) → 0 < below → inner ≡ entryAt below kind span n
+at-inner zero kind span n h = absurd (omega arith)
+at-inner (suc below) kind span n h = refl
+
+pub at-stop : (kind : ℕ) (span : Span) (n : ℕ) → (kind ≡ 0 → ⊥) → (kind ≡ 1 → ⊥) → (kind ≡ 2 → ⊥) → stop ≡ entryAt 0 kind span n
+at-stop zero span n a b c = absurd (a refl)
+at-stop (suc zero) span n a b c = absurd (b refl)
+at-stop (suc (suc zero)) span n a b c = absurd (c refl)
+at-stop (suc (suc (suc kind))) span n a b c = refl
+
+newlines-few : (t : List ℕ) → newlines t ≤ length t
+unfolding newlines
+newlines-few [] = omega arith
+newlines-few (b ∷ bs) = few (eqb b 0x0A) (newlines bs) (length bs) (newlines-few bs)
+  where
+    few : (t : Bool) (n m : ℕ) → n ≤ m → cond t 1 0 + n ≤ suc m
+    few true n m h = omega arith
+    few false n m h = omega arith
+
+-- a span is no longer than its end says
+pub newlines-fit : (src : List ℕ) (span : Span) → newlines (textOf src span) ≤ span .end .0
+newlines-fit src span =
+    let l : length (textOf src span) ≤ span .end .0 - span .start .0 = simp length-take (omega arith) in
+    omega (arith, newlines-few (textOf src span))
+
+-- ---- the records from i on
+
+module _ (x : Script) (i : ℕ) where
+  rest-next : i < length (x .tree) → entriesFrom x i ≡ entryOf (x .source) (nodeOf (x .tree) i) ∷ entriesFrom x (i + 1)
+  unfolding nodeOf
+  rest-next h = rw (add-one i, drop-cons (x .tree) i (cutRecord 0) h)
+
+  rest-none : length (x .tree) ≤ i → entriesFrom x i ≡ []
+  rest-none h = rw (drop-of-length-le (x .tree) h)
+
+-- ---- one turn
+
+abbrev pushed : State → Comment → State
+pushed s c = withLines (withQueue s (s .queue ++ (c ∷ []))) 0
+
+on-before : (s : State) (c : Comment) (k : State → Outcome) (g : Collected) → onGot (before c g) (λ lines cs. k (collected s lines cs)) ≡ onGot g (λ lines cs. k (collected (pushed s c) lines cs))
+on-before s c k (full i) = refl
+on-before s c k (got lines cs) = ap (λ (q : List Comment). k (withLines (withQueue s q) lines)) (sym (append-assoc (s .queue) (c ∷ []) cs))
+
+module _ (x : Script) (i : ℕ) (s : State) (k : State → Outcome) (h : i < length (x .tree)) where
+  go-inner : entryOf (x .source) (nodeOf (x .tree) i) ≡ inner → gather x i s k ≡ gather x (i + 1) s k
+  unfolding gather collect
+  go-inner e = rw (rest-next x i h, e, add-one i)
+
+  go-blank : (n : ℕ) → entryOf (x .source) (nodeOf (x .tree) i) ≡ blank n → gather x i s k ≡ gather x (i + 1) (withLines s (orElse (s .lines) n)) k
+  unfolding gather collect
+  go-blank n e = rw (rest-next x i h, e, add-one i)
+
+  go-stop : entryOf (x .source) (nodeOf (x .tree) i) ≡ stop → gather x i s k ≡ k s
+  unfolding gather collect
+  go-stop e = rw (rest-next x i h, e, append-nil)
+
+  go-full : (n : Note) → entryOf (x .source) (nodeOf (x .tree) i) ≡ remark n → 256 ≤ length (s .queue) → gather x i s k ≡ refused (QueueFull (record { 0 = i }))
+  unfolding gather collect
+  go-full n e l = let z : 256 - length (s .queue) ≡ 0 = omega arith in rw (rest-next x i h, e, z)
+
+  go-note : (n : Note) → entryOf (x .source) (nodeOf (x .tree) i) ≡ remark n → length (s .queue) < 256 → gather x i s k ≡ gather x (i + 1) (pushed s (queued n (s .lines))) k
+  unfolding gather collect
+  go-note n e l =
+      let z : 256 - length (s .queue) ≡ suc (256 - length (s .queue ++ (queued n (s .lines) ∷ []))) = omega (arith, length-append (s .queue) (queued n (s .lines) ∷ [])) in
+      rw (rest-next x i h, e, z, add-one i) (on-before s (queued n (s .lines)) k (collect (suc i) (256 - length (s .queue ++ (queued n (s .lines) ∷ []))) 0 (entriesFrom x (suc i))))
+
+go-end : (x : Script) (i : ℕ) (s : State) (k : State → Outcome) → length (x .tree) ≤ i → gather x i s k ≡ k s
+unfolding gather collect
+go-end x i s k h = rw (rest-none x i h, append-nil)
+
+-- a start behind the last record is as good as any other
+pub gather-min : (x : Script) (i : ℕ) (s : State) (k : State → Outcome) → gather x (min (length (x .tree)) i) s k ≡ gather x i s k
+gather-min x i s k = go (leb (length (x .tree)) i) refl
+  where
+    go : (t : Bool) → leb (length (x .tree)) i ≡ t → gather x (min (length (x .tree)) i) s k ≡ gather x i s k
+    go true e =
+        let l : length (x .tree) ≤ i = leb-true (length (x .tree)) i e in
+        let m : min (length (x .tree)) i ≡ length (x .tree) = min-eq-left l in
+        rw m (go-end x (length (x .tree)) s k (omega arith) ∙ sym (go-end x i s k l))
+    go false e = let m : min (length (x .tree)) i ≡ i = min-eq-right (omega (arith, leb-false (length (x .tree)) i e)) in rw m
+
+-- ---- the loop under way: from `from` on is as much as from i on, with what is in hand
+
+pub record Gathering (x : Script) (from : ℕ) (run : Run) (q₀ q : List ℕ) (i lines count : ℕ) : Type 0 where
+  pub out : (k : State → Outcome) → gather x from (view run q₀) k ≡ gather x i (view (collectedRun run lines count) q) k
+  pub kept : queueOf q (run .head) (run .count) ≡ queueOf q₀ (run .head) (run .count)
+  pub more : run .count ≤ count
+
+pub gather-start : {x : Script} {from : ℕ} {run : Run} {q₀ : List ℕ} → Gathering x from run q₀ q₀ from (run .lines) (run .count)
+gather-start = record { out = λ k. refl; kept = refl; more = omega arith }
+
+module _ {x : Script} {from : ℕ} {run : Run} {q₀ q : List ℕ} {i lines count : ℕ} (g : Gathering x from run q₀ q i lines count) where
+  module _ (r : Record) (e : entry.Entry) (h : i < length (x .tree)) (er : r ≡ nodeOf (x .tree) i) (ee : asEntry (r .span) e ≡ entryOf (x .source) r) where
+    found : {y : Entry} → asEntry (r .span) e ≡ y → entryOf (x .source) (nodeOf (x .tree) i) ≡ y
+    found y = ap (entryOf (x .source)) (sym er) ∙ sym ee ∙ y
+
+    pub gather-inner : asEntry (r .span) e ≡ inner → Gathering x from run q₀ q (i + 1) lines count
+    gather-inner y = record { out = λ k. g .out k ∙ go-inner x i _ k h (found y); kept = g .kept; more = g .more }
+
+    pub gather-blank : (n l : ℕ) → asEntry (r .span) e ≡ blank n → l ≡ orElse lines n → Gathering x from run q₀ q (i + 1) l count
+    gather-blank n l y el = record { out = λ k. g .out k ∙ rw el (go-blank x i _ k h n (found y)); kept = g .kept; more = g .more }
+
+    pub gather-note : (line : Bool) (q′ : List ℕ) → asEntry (r .span) e ≡ remark (record { span = r .span; line = line }) → count < 256
+        → queueOf q′ (run .head) (count + 1) ≡ queueOf q (run .head) count ++ (record { span = r .span; before = lines; line = line } ∷ [])
+        → Gathering x from run q₀ q′ (i + 1) 0 (count + 1)
+    gather-note line q′ y l p =
+        let n : length (queueOf q (run .head) count) ≡ count = length-tab (ringAt q) (run .head) count in
+        let m : run .count ≤ count = g .more in
+        record {
+          out = λ k. g .out k ∙ go-note x i _ k h _ (found y) (omega arith) ∙ ap (λ (c : List Comment). gather x (i + 1) (withLines (withQueue (view run q) c) 0) k) (sym p);
+          kept =
+              sym (take-tab (ringAt q′) (run .head) (count + 1) (run .count) (omega arith))
+              ∙ ap (take (run .count)) p
+              ∙ take-append-le (run .count) (queueOf q (run .head) count) _ (omega arith)
+              ∙ take-tab (ringAt q) (run .head) count (run .count) m
+              ∙ g .kept;
+          more = omega arith;
+        }
+
+    pub gather-stop : {o : Run} → asEntry (r .span) e ≡ stop → o ≡ collectedRun run lines count → Gathered x from run q₀ o q
+    gather-stop y eo = rw eo (record { out = λ a k. g .out k ∙ go-stop x i _ k h (found y) ∙ rw a; kept = g .kept; long = refl })
+
+    pub gather-full : {o : Run} (line : Bool) → asEntry (r .span) e ≡ remark (record { span = r .span; line = line }) → 256 ≤ count → o ≡ answered run (Refused (QueueFull (record { 0 = i }))) → Gathered x from run q₀ o q
+    gather-full line y l eo =
+        let n : length (queueOf q (run .head) count) ≡ count = length-tab (ringAt q) (run .head) count in
+        rw eo (record { out = λ a k. g .out k ∙ go-full x i _ k h _ (found y) (omega arith); kept = g .kept; long = refl })
+
+  pub gather-end : {o : Run} → length (x .tree) ≤ i → o ≡ collectedRun run lines count → Gathered x from run q₀ o q
+  gather-end h eo = rw eo (record { out = λ a k. g .out k ∙ go-end x i _ k h ∙ rw a; kept = g .kept; long = refl })

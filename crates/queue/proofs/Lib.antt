@@ -1,0 +1,9 @@
+pub mod WriteLaws
+pub mod TabLaws
+pub mod RingLaws
+pub mod StepLaws
+pub mod PassLaws
+pub mod ReleaseLaws
+pub mod GatherLaws
+pub mod GapLaws
+pub mod SlotLaws

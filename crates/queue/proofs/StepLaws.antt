@@ -1,0 +1,117 @@
+-- Steps from a result on: a refusal stays, and an open engine goes on. Assumes nothing.
+use mathlib.Core.Path.{_≡_, refl, sym, ap, _∙_}
+use mathlib.Core.Bool.{Bool, true, false}
+use mathlib.Core.List.{List, [], _∷_}
+use Prim.Native.Nat.{ℕ}
+use native.Mathlib.Omega.{arith}
+use lib.ListN.{length}
+use lib.Dec.{leb, ltb}
+use Rattle.tree.specs.declared.record.RecordNo.{RecordNo}
+use Rattle.meaning.specs.declared.call.Call.{Call}
+use Rattle.meaning.specs.declared.answer.Refusal.{Refusal}
+use Rattle.meaning.specs.declared.answer.Refusal.the-variants.{Finished, NoNode, NoRoom}
+use Rattle.meaning.specs.declared.answer.Answer.{Answer}
+use Rattle.meaning.specs.declared.answer.Answer.the-variants.{Done, Refused}
+use Rattle.meaning.specs.State.{Script, State}
+use Rattle.meaning.specs.Pieces.{Piece, Emit}
+use Rattle.meaning.specs.Outcome.{Outcome, done, refused, refuseIf}
+use Rattle.meaning.specs.Calls.{act, Named, no-node, a-node, namedBy, ifThere, ifOpen, step}
+use Rattle.meaning.specs.World.{World, world, capacity, Result, result, made}
+use Rattle.meaning.specs.Plan.{make, goOn, exec}
+use Rattle.queue.specs.declared.run.Run.{Run}
+use Rattle.queue.specs.Run.{isRefused, answered, movedRun, readyAnswer, readyRun, presentAnswer, presentRun}
+use Rattle.queue.specs.View.{view, resultOf}
+use Rattle.queue.specs.Parts.{steps, settles}
+
+-- ---- open or stopped
+
+pub is-done : (a : Answer) → isRefused a ≡ false → a ≡ Done
+is-done Done h = refl
+is-done (Refused e) h = let z : _≡_ {A = ℕ} 0 1 = cc in absurd (omega arith)
+
+-- a test of `stopped`, as the code makes it
+pub goes : {a : Answer} {t : Bool} → t ≡ isRefused a → t ≡ false → a ≡ Done
+goes {a} e h = is-done a (sym e ∙ h)
+
+-- an open run answered anew is the same run
+pub anew : (run : Run) → run .answer ≡ Done → answered run Done ≡ run
+anew run h = ap (answered run) (sym h)
+
+pub moved-anew : {m a : Run} (next : Run) {n : ℕ} → m ≡ movedRun a n → a ≡ answered next Done → m ≡ movedRun (answered next Done) n
+moved-anew next {n} e f = e ∙ ap (λ (z : Run). movedRun z n) f
+
+pub open-steps : (f : ℕ → State → Outcome) (a : Answer) (w : World) → a ≡ Done → steps f (result a w) ≡ made w (f (capacity w) (w .state))
+unfolding steps
+open-steps f a w h = rw h
+
+stays : (a : Answer) (w : World) (k : World → Result) → isRefused a ≡ true → goOn a w k ≡ result a w
+stays Done w k h = let z : _≡_ {A = ℕ} 0 1 = cc in absurd (omega arith)
+stays (Refused e) w k h = refl
+
+pub stopped-steps : (f : ℕ → State → Outcome) (a : Answer) (w : World) → isRefused a ≡ true → result a w ≡ steps f (result a w)
+unfolding steps
+stopped-steps f a w h = sym (stays a w _ h)
+
+-- ---- a change of the state behind steps
+
+unfoldable pub thenState : (State → State) → Result → Result
+thenState f r = goOn (r .answer) (r .left) (λ w. result Done (world (f (w .state)) (w .buffer)))
+
+pub then-stopped : (f : State → State) (a : Answer) (w : World) → isRefused a ≡ true → result a w ≡ thenState f (result a w)
+unfolding thenState
+then-stopped f a w h = sym (stays a w _ h)
+
+pub then-open : (f : State → State) (a : Answer) (w : World) → a ≡ Done → thenState f (result a w) ≡ result a (world (f (w .state)) (w .buffer))
+unfolding thenState
+then-open f a w h = rw h
+
+on-room : (t : Bool) (r : Refusal) (w : World) (u : State) (ps : List Piece) (f : State → State)
+    → made w (refuseIf t r (done (f u) ps)) ≡ thenState f (made w (refuseIf t r (done u ps)))
+unfolding refuseIf thenState
+on-room true r w u ps f = refl
+on-room false r w u ps f = refl
+
+pub settle-then : (e : State → Emit) (f : State → State) (a : Answer) (w : World)
+    → steps (λ cap s. settles cap s (e s) f) (result a w) ≡ thenState f (steps (λ cap s. settles cap s (e s) (λ s′. s′)) (result a w))
+unfolding steps thenState
+settle-then e f Done w = on-room (ltb (capacity w) (e (w .state) .state .len)) (NoRoom (w .state .len)) w (e (w .state) .state) (e (w .state) .out) f
+settle-then e f (Refused r) w = refl
+
+then-none : (a : Answer) (w : World) → thenState (λ s. s) (result a w) ≡ result a w
+unfolding thenState
+then-none Done w = refl
+then-none (Refused r) w = refl
+
+-- ---- 10, then 11, before the steps of a call
+
+ready-at : (t : Bool) (n : ℕ) (w : World) (k : World → Result) (o : Outcome) → k w ≡ made w o → made w (refuseIf t (Finished n) o) ≡ goOn (readyAnswer Done t n) w k
+unfolding refuseIf
+ready-at true n w k o e = refl
+ready-at false n w k o e = sym e
+
+there-at : (t : Bool) (i : RecordNo) (w : World) (k : World → Result) (o : Outcome) → k w ≡ made w o → made w (refuseIf t (NoNode i) o) ≡ goOn (presentAnswer Done t i) w k
+unfolding refuseIf
+there-at true i w k o e = refl
+there-at false i w k o e = sym e
+
+module _ (x : Script) (c : Call) where
+  opening-steps : (a : Answer) (w : World) → goOn a w (λ v. made v (step x (capacity v) (v .state) c)) ≡ goOn (readyAnswer a (w .state .finished) (w .state .len)) w (λ v. made v (ifThere x (namedBy c) (act x (capacity v) (v .state) c)))
+  unfolding step
+  opening-steps Done w = ready-at (w .state .finished) (w .state .len) w _ _ refl
+  opening-steps (Refused r) w = refl
+
+  -- a call that names no node
+  pub ready-steps : (run : Run) (q b : List ℕ) → namedBy c ≡ no-node → exec x (make c) (resultOf run q b) ≡ steps (λ cap s. act x cap s c) (resultOf (readyRun run) q b)
+  unfolding exec steps readyRun
+  ready-steps run q b h = rw (opening-steps (run .answer) (world (view run q) b), h)
+
+  present-steps : (a : Answer) (w : World) (k : RecordNo) → namedBy c ≡ a-node k
+      → goOn a w (λ v. made v (ifThere x (namedBy c) (act x (capacity v) (v .state) c))) ≡ goOn (presentAnswer a (leb (length (x .tree)) (k .0)) k) w (λ v. made v (act x (capacity v) (v .state) c))
+  present-steps Done w k h = rw h (there-at (leb (length (x .tree)) (k .0)) k w _ _ refl)
+  present-steps (Refused r) w k h = refl
+
+  -- a call on node k
+  pub present-call : (run : Run) (q b : List ℕ) (k : RecordNo) → namedBy c ≡ a-node k
+      → exec x (make c) (resultOf run q b) ≡ steps (λ cap s. act x cap s c) (resultOf (presentRun (x .tree) k (readyRun run)) q b)
+  unfolding exec steps readyRun presentRun
+  present-call run q b k h = opening-steps (run .answer) (world (view run q) b) ∙ present-steps (readyAnswer (run .answer) (run .finished) (run .len)) (world (view run q) b) k h

@@ -1,0 +1,39 @@
+-- `queue::collect::entry_of` meets its contract: by children, then by kind. Assumes nothing.
+use Rattle.meaning.specs.Collect.{blank, entryOf}
+use Rattle.queue.proofs.GatherLaws.{at-inner, at-stop}
+use mathlib.Core.Path.{_≡_, ap}
+use borrow.Author.Needs.{needs}
+use native.Mathlib.Omega.{arith}
+use Rattle.queue.proofs.collect.entry_of.Statement.{statement}
+use Rattle.queue.proofs.collect.entry_of.Tie as tie
+
+returns : tie.Need-returns
+unfolding entryOf
+returns c = at-inner _ _ _ _ (c .if1 .taken)
+
+returns-2 : tie.Need-returns-2
+unfolding entryOf
+returns-2 c = let z : c .before .before .before .before .before .before .args .r .below ≡ 0 = omega arith in rw (z, c .before .if2 .taken) (ap blank (c .newlines-in .ensures))
+
+returns-3 : tie.Need-returns-3
+unfolding entryOf
+returns-3 c = let z : c .before .before .before .before .before .before .before .args .r .below ≡ 0 = omega arith in rw (z, c .if3 .taken)
+
+returns-4 : tie.Need-returns-4
+unfolding entryOf
+returns-4 c = let z : c .before .before .before .before .before .before .before .before .before .args .r .below ≡ 0 = omega arith in rw (z, c .if4 .taken)
+
+returns-5 : tie.Need-returns-5
+unfolding entryOf
+returns-5 c = let z : c .before .before .before .before .before .before .before .before .before .args .r .below ≡ 0 = omega arith in rw z (at-stop _ _ _ (c .before .before .before .before .if2 .left) (c .before .before .if3 .left) (c .if4 .left))
+
+pub entry-of-spec : {M : Type 1} → statement M
+entry-of-spec =
+    tie.close
+    (tie.spec
+    returns
+    (λ c κs. search needs)
+    returns-2
+    returns-3
+    returns-4
+    returns-5)

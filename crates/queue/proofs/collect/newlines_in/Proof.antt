@@ -1,0 +1,24 @@
+-- `queue::collect::newlines_in` meets its contract. Assumes nothing.
+use Rattle.queue.proofs.GatherLaws.{newlines-fit}
+use mathlib.Core.Path.{_∙_, _≡_, ap}
+use Rattle.text.specs.Span.{textOf}
+use Rattle.text.specs.Lines.{newlines}
+use borrow.Author.Needs.{needs}
+use native.Mathlib.Omega.{arith}
+use Rattle.queue.proofs.collect.newlines_in.Statement.{statement}
+use Rattle.queue.proofs.collect.newlines_in.Tie as tie
+
+cast-result : tie.Need-cast-result
+cast-result c = let e : c .count-newlines .result ≡ newlines (textOf (c .before .before .before .args .src .now) (c .before .before .before .args .span)) = c .count-newlines .ensures ∙ ap newlines (c .before .part .ensures) in omega (arith, newlines-fit (c .before .before .before .args .src .now) (c .before .before .before .args .span))
+
+returns : tie.Need-returns
+returns c = c .count-newlines .ensures ∙ ap newlines (c .before .part .ensures)
+
+pub newlines-in-spec : {M : Type 1} → statement M
+newlines-in-spec =
+    tie.close
+    (tie.spec
+    (λ c κs. search needs)
+    (λ c κs. search needs)
+    cast-result
+    returns)

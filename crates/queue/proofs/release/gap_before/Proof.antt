@@ -1,0 +1,38 @@
+-- `queue::release::gap_before` meets its contract. Assumes nothing.
+use Rattle.queue.proofs.GapLaws.{gap-front, gap-new-line, gap-no-front, gap-none, gap-same-line}
+use mathlib.Core.Path.{_∙_}
+use borrow.Author.Needs.{needs}
+use Rattle.queue.proofs.release.gap_before.Statement.{statement}
+use Rattle.queue.proofs.release.gap_before.Tie as tie
+
+returns : tie.Need-returns
+returns c = c .no-gap .ensures ∙ gap-none (c .before .before .args .way) (c .before .before .args .indent) (c .before .before .args .front) (c .before .before .args .len) (c .before .before .args .before) (c .before .if1 .taken)
+
+returns-2 : tie.Need-returns-2
+returns-2 c = c .one-space .ensures ∙ gap-same-line (c .before .before .before .before .before .args .way) (c .before .before .before .before .before .args .indent) (c .before .before .before .before .before .args .front) (c .before .before .before .before .before .args .len) (c .before .before .before .before .before .args .before) (c .before .before .before .before .if1 .left) _ (c .before .before .enum-told .given .1) (c .before .if2 .taken)
+
+returns-3 : tie.Need-returns-3
+returns-3 c = c .one-space2 .ensures ∙ gap-front (c .before .before .before .before .before .args .way) (c .before .before .before .before .before .args .indent) (c .before .before .before .before .before .args .front) (c .before .before .before .before .before .args .len) (c .before .before .before .before .before .args .before) (c .before .before .before .before .if1 .left) _ _ (c .before .before .enum-told2 .given .1) (c .before .if3 .taken)
+
+returns-4 : tie.Need-returns-4
+returns-4 c = c .line-break .ensures ∙ gap-new-line (c .before .before .before .before .before .args .way) (c .before .before .before .before .before .args .indent) (c .before .before .before .before .before .args .front) (c .before .before .before .before .before .args .len) (c .before .before .before .before .before .args .before) (c .before .before .before .before .if1 .left) _ (c .before .before .enum-told .given .1) (c .before .if2 .left)
+
+returns-5 : tie.Need-returns-5
+returns-5 c = c .no-gap2 .ensures ∙ gap-no-front (c .before .before .before .before .before .args .way) (c .before .before .before .before .before .args .indent) (c .before .before .before .before .before .args .front) (c .before .before .before .before .before .args .len) (c .before .before .before .before .before .args .before) (c .before .before .before .before .if1 .left) _ _ (c .before .before .enum-told2 .given .1) (c .before .if3 .left)
+
+pub gap-before-spec : {M : Type 1} → statement M
+gap-before-spec =
+    tie.close
+    (tie.spec
+    (λ c κs. search needs)
+    returns
+    (λ c. search needs)
+    (λ c κs. search needs)
+    returns-2
+    (λ c κs. search needs)
+    (λ c. search needs)
+    (λ c κs. search needs)
+    returns-3
+    (λ c κs. search needs)
+    returns-4
+    returns-5)

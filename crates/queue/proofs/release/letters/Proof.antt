@@ -1,0 +1,27 @@
+-- `queue::release::letters` meets its contract. Assumes nothing.
+use mathlib.Core.Path.{_∙_, ap}
+use Rattle.text.specs.Lines.{trim}
+use borrow.Author.Needs.{needs}
+use Rattle.queue.proofs.release.letters.Statement.{statement}
+use Rattle.queue.proofs.release.letters.Tie as tie
+
+returns : tie.Need-returns
+returns c = rw (c .before .before .enum-told .given .1, c .before .if1 .taken) (c .trimmed .ensures ∙ ap trim (c .before .before .before .before .part .ensures))
+
+returns-2 : tie.Need-returns-2
+returns-2 c = rw (c .before .enum-told .given .1, c .if1 .left) (c .before .before .before .part .ensures)
+
+returns-3 : tie.Need-returns-3
+returns-3 c = rw (c .enum-told2 .given .1) (c .before .before .part .ensures)
+
+pub letters-spec : {M : Type 1} → statement M
+letters-spec =
+    tie.close
+    (tie.spec
+    (λ c κs. search needs)
+    (λ c. search needs)
+    (λ c κs. search needs)
+    returns
+    (λ c. search needs)
+    returns-2
+    returns-3)

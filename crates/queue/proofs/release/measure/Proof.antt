@@ -1,0 +1,67 @@
+-- `queue::release::measure` meets its contract. The invariant: what is counted and reached, and what is still to go, make up the whole.
+-- Assumes nothing.
+use Prim.Native.Nat.{_+_, _-_, _≤_}
+use Rattle.meaning.specs.Plan.{run}
+use Rattle.queue.specs.View.{queueOf}
+use Rattle.queue.proofs.PassLaws.{Measuring, measure-end, measure-full, measure-over, measure-start, measure-stop, measure-turn, put-of}
+use Rattle.queue.proofs.RingLaws.{ring-next}
+use Rattle.queue.proofs.TabLaws.{tab-all, tab-none}
+use mathlib.Core.Path.{_∙_, sym}
+use borrow.Author.Needs.{needs}
+use native.Mathlib.Omega.{arith}
+use Rattle.queue.proofs.release.measure.Statement.{statement}
+use Rattle.queue.proofs.release.measure.Tie as tie
+
+abbrev Inv-loop : tie.InvT-loop
+Inv-loop src queue cap run way len₀ front₀ i₀ len front i = (i ≤ run .count) × Measuring src way (run .indent) cap (run .len) (queueOf queue (run .head) (run .count)) len front i (queueOf queue (run .head + i) (run .count - i))
+
+abbrev μ-loop : tie.MeasureT-loop
+μ-loop src queue cap run way len₀ front₀ i₀ len front i = run .count - i
+
+loop-holds : tie.Need-loop-holds Inv-loop μ-loop
+loop-holds c = (search needs, measure-start _ _ _ (c .in-front .ensures) (tab-all _ _ _) (c .before .if1 .left))
+
+returns-2 : tie.Need-returns-2 Inv-loop μ-loop
+returns-2 c = measure-stop _ _ _ (ring-next (c .before .before .before .before .before .before .before .before .before .args .queue .now) (c .before .before .before .before .before .before .before .before .before .args .run .head) (c .before .before .before .before .before .before .before .before .before .args .run .count) (c .before .before .before .before .before .loop .i) _ (c .before .before .before .if2 .taken) (c .before .before .comment-at .ensures)) (sym (c .before .stops .ensures) ∙ c .if3 .taken) (c .before .before .before .before .before .loop .inv .1)
+
+returns-3 : tie.Need-returns-3 Inv-loop μ-loop
+returns-3 c = measure-over _ _ _ (ring-next (c .before .before .before .before .before .before .before .before .before .before .before .before .before .args .queue .now) (c .before .before .before .before .before .before .before .before .before .before .before .before .before .args .run .head) (c .before .before .before .before .before .before .before .before .before .before .before .before .before .args .run .count) (c .before .before .before .before .before .before .before .before .before .loop .i) _ (c .before .before .before .before .before .before .before .if2 .taken) (c .before .before .before .before .before .before .comment-at .ensures)) (sym (c .before .before .before .before .before .stops .ensures) ∙ c .before .before .before .before .if3 .left) (put-of _ _ _ (c .before .before .before .gap-before .result) (c .before .before .before .gap-before .ensures) (c .before .before .letters .ensures)) (sym (c .before .passes .ensures .0) ∙ c .if4 .taken) (c .before .before .before .before .before .before .before .before .before .loop .inv .1)
+
+add-len : tie.Need-add-len Inv-loop μ-loop
+add-len c = omega (arith, c .before .before .passes .ensures .1 (c .before .if4 .left))
+
+add-len-2 : tie.Need-add-len-2 Inv-loop μ-loop
+add-len-2 c = omega (arith, c .before .before .passes .ensures .1 (c .before .if4 .left))
+
+add-len-3 : tie.Need-add-len-3 Inv-loop μ-loop
+add-len-3 c = omega (arith, c .before .before .passes .ensures .1 (c .before .if4 .left))
+
+loop-again : tie.Need-loop-again Inv-loop μ-loop
+loop-again c = (omega arith, measure-turn _ _ _ (ring-next (c .before .before .before .before .before .before .before .before .before .before .before .before .before .before .args .queue .now) (c .before .before .before .before .before .before .before .before .before .before .before .before .before .before .args .run .head) (c .before .before .before .before .before .before .before .before .before .before .before .before .before .before .args .run .count) (c .before .before .before .before .before .before .before .before .before .before .loop .i) _ (c .before .before .before .before .before .before .before .before .if2 .taken) (c .before .before .before .before .before .before .before .comment-at .ensures)) (sym (c .before .before .before .before .before .before .stops .ensures) ∙ c .before .before .before .before .before .if3 .left) (put-of _ _ _ (c .before .before .before .before .gap-before .result) (c .before .before .before .before .gap-before .ensures) (c .before .before .before .letters .ensures)) (c .before .before .passes .ensures .1 (c .before .if4 .left)) (c .before .before .before .before .before .before .before .before .before .before .loop .inv .1))
+
+returns-4 : tie.Need-returns-4 Inv-loop μ-loop
+returns-4 c = measure-end _ _ _ (tab-none _ (c .before .before .before .before .before .before .args .run .head) (c .before .before .before .before .before .before .args .run .count) (c .before .before .loop .i) (c .if2 .left)) (c .before .before .loop .inv .1)
+
+pub measure-spec : {M : Type 1} → statement M
+measure-spec =
+    tie.close
+    (tie.spec
+    Inv-loop
+    μ-loop
+    (λ c. measure-full _ _ _ (c .if1 .taken))
+    (λ c κs. search needs)
+    loop-holds
+    (λ c κs. search needs)
+    (λ c κs. search needs)
+    returns-2
+    (λ c κs. search needs)
+    (λ c κs. search needs)
+    (λ c κs. search needs)
+    returns-3
+    add-len
+    add-len-2
+    add-len-3
+    (λ c. search needs)
+    (λ c. search needs)
+    loop-again
+    returns-4)

@@ -1,0 +1,19 @@
+-- `queue::ring::push` meets its contract: a comment's words behind the last comment's. Assumes nothing.
+use Rattle.queue.proofs.RingLaws.{push-law}
+use Rattle.queue.specs.View.{asComment}
+use borrow.Author.Needs.{needs}
+use native.Mathlib.Omega.{arith}
+use Rattle.queue.proofs.ring.push.Statement.{statement}
+use Rattle.queue.proofs.ring.push.Tie as tie
+
+returns : tie.Need-returns
+returns c = rw (c .store .ensures) (push-law (c .before .before .before .before .before .before .args .queue .now) (c .before .before .before .before .before .before .args .head) (c .before .before .before .before .before .before .args .count) (c .before .slot .result) (asComment (c .before .before .before .before .before .before .args .c)) (search needs) (c .before .before .before .before .before .before .pre) (c .before .slot .ensures))
+
+pub push-spec : {M : Type 1} → statement M
+push-spec =
+    tie.close
+    (tie.spec
+    (λ c κs. search needs)
+    (λ c κs. search needs)
+    (λ c κs. omega (arith, c .slot .ensures))
+    returns)

@@ -1,0 +1,39 @@
+-- `queue::room::copy` meets its contract. The invariant: the rest from here is the whole from the start. Assumes nothing.
+use Prim.Native.Nat.{_+_, _-_, _≤_}
+use Rattle.meaning.specs.CallRecord.{at}
+use Rattle.queue.proofs.WriteLaws.{copy-end, copy-turn}
+use lib.ListN.{drop, length}
+use lib.Seq.{sets}
+use mathlib.Core.Path.{_∙_, _≡_, sym}
+use native.Mathlib.Nat.{add-zero}
+use borrow.Author.Needs.{needs}
+use Rattle.queue.proofs.room.copy.Statement.{statement}
+use Rattle.queue.proofs.room.copy.Tie as tie
+
+abbrev Inv-loop : tie.InvT-loop
+Inv-loop out₀ at t i₀ out i = (i ≤ length t) × (at + length t ≤ length out) × (length out ≡ length out₀) × (sets out (at + i) (drop i t) ≡ sets out₀ at t)
+
+abbrev μ-loop : tie.MeasureT-loop
+μ-loop out₀ at t i₀ out i = length t - i
+
+loop-again : tie.Need-loop-again Inv-loop μ-loop
+loop-again c = (search needs, search needs, search needs, sym (copy-turn (c .before .before .loop .out) _ _ (c .before .before .loop .i) (c .before .loop-test .taken)) ∙ c .before .before .loop .inv .3)
+
+returns : tie.Need-returns Inv-loop μ-loop
+returns c = sym (copy-end _ _ _ _ (c .loop-test .left)) ∙ c .before .loop .inv .3
+
+pub copy-spec : {M : Type 1} → statement M
+copy-spec =
+    tie.close
+    (tie.spec
+    Inv-loop
+    μ-loop
+    (λ c. (search needs, search needs, search needs, rw add-zero))
+    (λ c. search needs)
+    (λ c. search needs)
+    (λ c. search needs)
+    (λ c. search needs)
+    (λ c. search needs)
+    loop-again
+    (λ c. search needs)
+    returns)

@@ -1,0 +1,41 @@
+-- `queue::room::fill` meets its contract. The invariant: the rest from here is the whole from the start. Assumes nothing.
+use Prim.Native.Nat.{_+_, _-_, _≤_}
+use Rattle.meaning.specs.CallRecord.{at}
+use Rattle.queue.proofs.WriteLaws.{fill-end, fill-turn}
+use lib.ListN.{length, replicate}
+use lib.Seq.{sets}
+use mathlib.Core.Path.{_∙_, _≡_, sym}
+use borrow.Author.Needs.{needs}
+use native.Mathlib.Omega.{arith}
+use Rattle.queue.proofs.room.fill.Statement.{statement}
+use Rattle.queue.proofs.room.fill.Tie as tie
+
+abbrev Inv-loop : tie.InvT-loop
+Inv-loop out₀ at n b end i₀ out i = (i ≤ end) × (end ≤ length out) × (length out ≡ length out₀) × (sets out i (replicate (end - i) b) ≡ sets out₀ at (replicate n b))
+
+abbrev μ-loop : tie.MeasureT-loop
+μ-loop out₀ at n b end i₀ out i = end - i
+
+loop-holds : tie.Need-loop-holds Inv-loop μ-loop
+loop-holds c = let q : c .args .at + c .args .n - c .args .at ≡ c .args .n = omega arith in (search needs, search needs, search needs, rw q)
+
+loop-again : tie.Need-loop-again Inv-loop μ-loop
+loop-again c = (search needs, search needs, search needs, sym (fill-turn (c .before .loop .out) (c .before .loop .i) _ _ (c .loop-test .taken)) ∙ c .before .loop .inv .3)
+
+returns : tie.Need-returns Inv-loop μ-loop
+returns c = sym (fill-end _ _ _ _ (c .loop-test .left)) ∙ c .before .loop .inv .3
+
+pub fill-spec : {M : Type 1} → statement M
+fill-spec =
+    tie.close
+    (tie.spec
+    Inv-loop
+    μ-loop
+    (λ c. search needs)
+    loop-holds
+    (λ c. search needs)
+    (λ c. search needs)
+    (λ c. search needs)
+    loop-again
+    (λ c. search needs)
+    returns)

@@ -1,0 +1,5 @@
+pub mod Run
+pub mod View
+pub mod Wording
+pub mod Parts
+pub mod Passes

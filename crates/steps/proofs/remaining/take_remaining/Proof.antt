@@ -1,0 +1,25 @@
+-- `steps::remaining::take_remaining` meets its contract. Assumes nothing.
+use Rattle.tree.specs.Table.{treeOf}
+use Rattle.steps.specs.Stream.{streamOf}
+use Rattle.steps.proofs.RestLaws.{rests-at, rests-none, mark-ate}
+use borrow.Author.Needs.{needs}
+use Rattle.steps.proofs.remaining.take_remaining.Statement.{statement}
+use Rattle.steps.proofs.remaining.take_remaining.Tie as tie
+
+returns : tie.Need-returns
+returns c = rests-at (treeOf (c .before .before .before .before .before .before .before .before .args .table .now)) (c .before .before .before .before .before .before .before .before .args .mark) (streamOf (treeOf (c .before .before .before .before .before .before .before .before .args .table .now)) (c .before .before .before .before .before .before .before .before .args .p)) (mark-ate (treeOf (c .before .before .before .before .before .before .before .before .args .table .now)) (c .before .before .before .before .before .before .before .before .args .mark) (streamOf (treeOf (c .before .before .before .before .before .before .before .before .args .table .now)) (c .before .before .before .before .before .before .before .before .args .p)) (c .before .before .before .before .before .before .byte-of .ensures) (c .before .before .before .before .before .eat .ensures)) (c .before .before .found .given .1) (c .once .ensures)
+
+returns-2 : tie.Need-returns-2
+returns-2 c = rests-none (treeOf (c .before .before .before .before .before .before .args .table .now)) (c .before .before .before .before .before .before .args .mark) (streamOf (treeOf (c .before .before .before .before .before .before .args .table .now)) (c .before .before .before .before .before .before .args .p)) (mark-ate (treeOf (c .before .before .before .before .before .before .args .table .now)) (c .before .before .before .before .before .before .args .mark) (streamOf (treeOf (c .before .before .before .before .before .before .args .table .now)) (c .before .before .before .before .before .before .args .p)) (c .before .before .before .before .byte-of .ensures) (c .before .before .before .eat .ensures)) (c .enum-told .given .1)
+
+pub take-remaining-spec : {M : Type 1} → statement M
+take-remaining-spec =
+    tie.close
+    (tie.spec
+    (λ c κs. search needs)
+    (λ c κs. search needs)
+    (λ c. search needs)
+    (λ c κs. search needs)
+    (λ c. search needs)
+    returns
+    returns-2)

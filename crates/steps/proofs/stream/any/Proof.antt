@@ -1,0 +1,20 @@
+-- `steps::stream::any` meets its contract. Assumes nothing.
+use Rattle.steps.specs.Stream.{takeAny}
+use Rattle.steps.specs.Flow.{write, notMet, pump}
+use Rattle.steps.proofs.FlowLaws.{stepped}
+use borrow.Author.Needs.{needs}
+use Rattle.steps.proofs.stream.any.Statement.{statement}
+use Rattle.steps.proofs.stream.any.Tie as tie
+
+returns : tie.Need-returns
+unfolding pump
+returns c = stepped takeAny write notMet (c .before .before .before .before .before .before .take-any .ensures .found) (c .before .before .before .before .before .before .take-any .ensures .rest) (c .before .before .write-found .ensures)
+
+pub any-spec : {M : Type 1} → statement M
+any-spec =
+    tie.close
+    (tie.spec
+    (λ c κs. search needs)
+    (λ c κs. search needs)
+    (λ c. search needs)
+    returns)

@@ -1,0 +1,16 @@
+-- `steps::stream::is_kind` meets its contract. Assumes nothing.
+use Rattle.tree.specs.Table.{treeOf}
+use Rattle.steps.proofs.StreamLaws.{kind-is}
+use borrow.Author.Needs.{needs}
+use Rattle.steps.proofs.stream.is_kind.Statement.{statement}
+use Rattle.steps.proofs.stream.is_kind.Tie as tie
+
+returns : tie.Need-returns
+returns c = kind-is (treeOf (c .before .before .before .args .table .now)) (c .before .before .before .args .kind) (c .before .before .before .args .k .0) (c .before .node .ensures)
+
+pub is-kind-spec : {M : Type 1} → statement M
+is-kind-spec =
+    tie.close
+    (tie.spec
+    (λ c κs. search needs)
+    returns)

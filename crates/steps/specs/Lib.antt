@@ -1,0 +1,5 @@
+pub mod Stream
+pub mod Flow
+pub mod Loop
+pub mod Remaining
+pub mod Items

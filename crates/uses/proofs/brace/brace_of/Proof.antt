@@ -1,0 +1,44 @@
+-- `uses::brace::brace_of` meets its contract. Assumes nothing.
+use mathlib.Core.Path.{sym, ap}
+use Rattle.meaning.proofs.Chain as chain
+use Rattle.steps.specs.declared.items.Few.{Few}
+use Rattle.uses.specs.Use.{braced}
+use Rattle.steps.proofs.FlowLaws.{ran-as, keeps}
+use borrow.Author.Needs.{needs}
+use Rattle.uses.proofs.brace.brace_of.Statement.{statement}
+use Rattle.uses.proofs.brace.brace_of.Tie as tie
+
+same-length : tie.Need-same-length
+same-length c = chain.keeps (c .before .before .write-owned .ensures)
+
+returns : tie.Need-returns
+returns c = ran-as (ap (λ (n : Few). braced n (c .before .before .before .before .before .before .before .before .before .before .args .k)) (sym (c .before .before .before .before .before .enum-told .given .1))) (c .before .before .write-owned .ensures)
+
+same-length-2 : tie.Need-same-length-2
+same-length-2 c = chain.keeps (c .before .before .ignore .ensures)
+
+returns-2 : tie.Need-returns-2
+returns-2 c = ran-as (ap (λ (n : Few). braced n (c .before .before .before .before .before .before .before .before .before .before .args .k)) (sym (c .before .before .before .before .before .enum-told2 .given .1))) (c .before .before .ignore .ensures)
+
+same-length-3 : tie.Need-same-length-3
+same-length-3 c = chain.keeps (c .before .before .write-owned2 .ensures)
+
+returns-3 : tie.Need-returns-3
+returns-3 c = ran-as (ap (λ (n : Few). braced n (c .before .before .before .before .before .before .before .before .before .before .args .k)) (sym (c .before .before .before .before .before .enum-told3 .given .1))) (c .before .before .write-owned2 .ensures)
+
+pub brace-of-spec : {M : Type 1} → statement M
+brace-of-spec =
+    tie.close
+    (tie.spec
+    (λ c. search needs)
+    (λ c κs. search needs)
+    (λ c. search needs)
+    (λ c κs. search needs)
+    (λ c. search needs)
+    (λ c κs. search needs)
+    same-length
+    returns
+    same-length-2
+    returns-2
+    same-length-3
+    returns-3)
