@@ -11,7 +11,7 @@ use lib.Dec.{eqb, ltb}
 use borrow.Author.Tests.{le-leb}
 use Rattle.tree.specs.Records.{spanOf}
 use Rattle.meaning.specs.State.{Comment, State}
-use Rattle.output.specs.View.{tab, flagOf, commentFrom, wordsOf, slotsOf}
+use Rattle.queue.specs.View.{tab, flagOf, commentFrom, wordsOf, slotsOf}
 use Rattle.savetnuok.specs.Words.{wordAt}
 use Rattle.savetnuok.specs.StateBytes.{isFlag, commentWord, lineFlags, shaped, commentAt, stateIn, stateWords, bytesOf}
 use Rattle.savetnuok.proofs.WordLaws.{bytes-length, word-back}

@@ -2,14 +2,15 @@
 use mathlib.Core.Path.{_≡_, refl, sym, ap, subst, _∙_}
 use mathlib.Core.Bool.{Bool, true, false, _&&_}
 use mathlib.Core.List.{List}
-use Prim.Native.Nat.{ℕ, _≤_, _<_}
+use Prim.Native.Nat.{ℕ, _≤_, _<_, min}
 use native.Mathlib.Omega.{arith}
 use lib.ListN.{length, getD}
 use lib.Dec.{eqb}
 use borrow.Author.Tests.{eqb-true, leb-true, eq-eqb, ne-eqb}
+use Rattle.tree.specs.Records.{records}
 use Rattle.tree.specs.Opening.{opened}
-use Rattle.output.specs.declared.state.State as code
-use Rattle.output.specs.declared.state.Step.{Step}
+use Rattle.entry.specs.declared.state.State as code
+use Rattle.entry.specs.declared.state.Step.{Step}
 use Rattle.meaning.specs.declared.answer.Answer.{Answer}
 use Rattle.meaning.specs.declared.answer.Answer.the-variants.{Done, Refused}
 use Rattle.meaning.specs.State.{Script, State, fresh}
@@ -17,16 +18,18 @@ use Rattle.meaning.specs.Opening.{scriptIn, opening}
 use Rattle.meaning.specs.Lent.{serveRecord}
 use Rattle.meaning.specs.Numbers.{seen}
 use Rattle.meaning.specs.World.{World, world, Result, result, callRecord}
-use Rattle.output.specs.Run.{isRefused}
-use Rattle.output.specs.Served.{stateOf, encoded, leftOf, Served, recordLeft}
-use Rattle.meaning.proofs.Leaves.{record-refused}
+use Rattle.queue.specs.Run.{isRefused}
+use Rattle.entry.specs.Served.{stateOf, encoded, leftOf, Served, recordLeft}
 use Rattle.meaning.proofs.Kept.{Bounded, record-bounded}
+use Rattle.format.specs.Rules.{laidOut}
+use Rattle.format.proofs.TameRules.{layout-tame}
 use Rattle.savetnuok.specs.Words.{wordAt, inBytes}
 use Rattle.savetnuok.specs.StateBytes.{shaped, stateIn, bytesOf}
-use Rattle.savetnuok.specs.CodeState.{codeState, codeWords, Wrote, placeWord, Packed}
-use Rattle.savetnuok.specs.Exported.{packed, thenShape, stateLeft, openAnswer, Opened, callResult, Called}
+use Rattle.savetnuok.specs.CodeState.{codeState, codeWords, Wrote, placeWord, runPlaceWord, Packed}
+use Rattle.savetnuok.specs.Exported.{packed, thenShape, stateLeft, openAnswer, Opened, Handed, callResult, Called, layoutOf, runResult, Laid}
 use Rattle.savetnuok.proofs.PlaceLaws.{open-placed}
 use Rattle.savetnuok.proofs.ReadLaws.{Agree, agree}
+use Rattle.savetnuok.proofs.RunLaws.{open-word, run-bounded, agree-run}
 use Rattle.savetnuok.proofs.BackLaws.{Words, reads-back, shaped-back}
 
 -- ---- answers
@@ -56,17 +59,17 @@ record Answers (n : ℕ) (a : Answer) : Type 0 where
   number : n ≡ packed a
   fits : seen a .place < 0x100000000
 
-packs : {n : ℕ} {len indent : ℕ} (a a′ : Answer) → Packed len indent a′ n → seen a .number ≡ seen a′ .number → seen a .place ≡ placeWord len indent a′ → Answers n a
+packs : {n p : ℕ} (a a′ : Answer) → Packed p a′ n → seen a .number ≡ seen a′ .number → seen a .place ≡ p → Answers n a
 unfolding packed
-packs a a′ p h k = record { number = p .is ∙ rw (h, k); fits = rw k (p .fits) }
+packs a a′ q h k = record { number = q .is ∙ rw (h, k); fits = rw k (q .fits) }
 
-packs-open : {n : ℕ} (src tree : List ℕ) (t : Bool) (a : Answer) → a ≡ thenShape (opening src tree) t → Packed 0 0 a n → Answers n (thenShape (opening src tree) t)
+packs-open : {n : ℕ} (src tree : List ℕ) (t : Bool) (a : Answer) → a ≡ thenShape (opening src tree) t → Packed (placeWord 0 0 a) a n → Answers n (thenShape (opening src tree) t)
 packs-open src tree t a ea p = packs (thenShape (opening src tree) t) a p (rw ea) (rw ea (open-placed (opened src tree) t 0 0))
 
 -- ---- open
 
 module _ (src tree st : List ℕ) where
-  pub open-misshapen : {n : ℕ} {a a′ : Answer} → a ≡ opening src tree → (length st ≡ 4128 → ⊥) → a′ ≡ thenShape a false → Packed 0 0 a′ n → Opened src tree st n st
+  pub open-misshapen : {n : ℕ} {a a′ : Answer} → a ≡ opening src tree → (length st ≡ 4128 → ⊥) → a′ ≡ thenShape a false → Packed (placeWord 0 0 a′) a′ n → Opened src tree st n st
   open-misshapen {n} {a} {a′} ea h ea′ en =
       let t : eqb (length st) 4128 ≡ false = ne-eqb (length st) 4128 h in
       let p = packs-open src tree false a′ (ea′ ∙ ap (λ (y : Answer). thenShape y false) ea) en in
@@ -80,7 +83,7 @@ module _ (src tree st : List ℕ) where
     good : openAnswer src tree st ≡ a
     good = ap (thenShape (opening src tree)) (eq-eqb (length st) 4128 sized) ∙ then-good (opening src tree) ∙ sym ea
 
-    pub open-refused : {n : ℕ} {t : Bool} → t ≡ isRefused a → t ≡ true → Packed 0 0 a n → Opened src tree st n st
+    pub open-refused : {n : ℕ} {t : Bool} → t ≡ isRefused a → t ≡ true → Packed (placeWord 0 0 a) a n → Opened src tree st n st
     open-refused {n} {t} et h en =
         let p = packs-open src tree (eqb (length st) 4128) a (sym good) en in
         record { answer = p .number; place-fits = p .fits; state = rw good (stays st a fresh (sym et ∙ h)) }
@@ -110,6 +113,68 @@ module _ (st : List ℕ) (cap : ℕ) {t : Bool} (e : t ≡ shaped st cap) (h : t
   unfolding shaped
   shape-fits = leb-true cap 0xFFFFFFFF (and-left _ _ (and-right (eqb (length st) 4128) _ (sym e ∙ h)))
 
+-- ---- a call or a run, refused
+
+left-answer : (s : code.State) (a : Answer) (t : State) → leftOf s a t .answer ≡ a
+left-answer s Done t = refl
+left-answer s (Refused r) t = refl
+
+handed-refused : (st : List ℕ) (r : Result) {n : ℕ} {b′ : List ℕ} → isRefused (r .answer) ≡ true → Answers n (r .answer) → b′ ≡ r .left .buffer → Handed st r n st b′
+handed-refused st r h en eb = record {
+  answer = en .number;
+  place-fits = en .fits;
+  state = stays st (r .answer) _ h;
+  buffer = eb;
+  reads = never-done (r .answer) h;
+  shape = never-done (r .answer) h;
+}
+
+-- the shape is wrong
+handed-misshapen : (src tree st b : List ℕ) (r : Result) {n : ℕ} {a a′ : Answer} → r ≡ result (thenShape (opening src tree) false) (world (stateIn st) b) → a ≡ opening src tree → a′ ≡ thenShape a false
+    → Packed (placeWord 0 0 a′) a′ n → Handed st r n st b
+handed-misshapen src tree st b r {n} {a} {a′} er ea ea′ en =
+    handed-refused st r (rw er (then-bad (opening src tree))) (rw er (packs-open src tree false a′ (ea′ ∙ ap (λ (y : Answer). thenShape y false) ea) en)) (rw er)
+
+-- ---- the state has the shape, and the engine was asked: r is what the bytes mean, r′ what the engine was asked
+
+module _ (st b : List ℕ) {t : Bool} (et : t ≡ shaped st (length b)) (ht : t ≡ true) {z : Step} {b′ : List ℕ} {word : Answer → ℕ} (r r′ : Result) (agreed : Agree word r r′)
+    (served : Served (codeState st) z b′ r′) where
+  answered : z .answer ≡ r′ .answer
+  answered = ap (λ (y : Step). y .answer) (served .step) ∙ left-answer (codeState st) (r′ .answer) (r′ .left .state)
+
+  asked-refused : {n : ℕ} {u : Bool} → u ≡ isRefused (z .answer) → u ≡ true → Packed (word (z .answer)) (z .answer) n → Handed st r n st b′
+  asked-refused {n} {u} eu hu en =
+      handed-refused st r (agreed .alike ∙ ap isRefused (sym answered) ∙ sym eu ∙ hu) (packs (r .answer) (r′ .answer) (rw answered at en) (agreed .number) (agreed .place)) (served .buffer ∙ sym (agreed .buffer))
+
+  module _ (bounds : r′ .answer ≡ Done → Bounded (length b) (r′ .left .state)) {u : Bool} (eu : u ≡ isRefused (z .answer)) (hu : u ≡ false) where
+    went : r′ .answer ≡ Done
+    went = is-done (r′ .answer) (ap isRefused (sym answered) ∙ sym eu ∙ hu)
+
+    state-is : z .state ≡ encoded (r′ .left .state)
+    state-is = ap (λ (y : Step). y .state) (served .step) ∙ rw went
+
+    asked-len : z .state .now .len < 4294967296
+    asked-len = let e : z .state .now .len ≡ r′ .left .state .len = ap (λ (y : code.State). y .now .len) state-is in omega (arith, bounds went .fits, shape-fits st (length b) et ht)
+
+    words : ((i : ℕ) → getD (codeWords (z .state)) i 0 < 0x100000000) → Words (r′ .left .state)
+    words f = record { fit = subst (λ (y : code.State). (i : ℕ) → getD (codeWords y) i 0 < 0x100000000) state-is f; few = bounds went .room }
+
+    asked-done : {st′ : List ℕ} → length b′ ≡ length b → Wrote (codeWords (z .state)) st′ → Handed st r 0 st′ b′
+    unfolding packed bytesOf
+    asked-done {st′} long e =
+        let same : r ≡ r′ = agreed .same went in
+        let d : r .answer ≡ Done = ap (λ (y : Result). y .answer) same ∙ went in
+        let k : st′ ≡ bytesOf (r′ .left .state) = e .bytes-are ∙ ap (λ (y : code.State). inBytes (codeWords y)) state-is in
+        let v = words (e .fit) in
+        record {
+          answer = rw d;
+          place-fits = rw d (omega arith);
+          state = k ∙ rw (d, same);
+          buffer = served .buffer ∙ rw same;
+          reads = λ _. rw (k, same) (reads-back (r′ .left .state) v);
+          shape = λ _. rw k (shaped-back (r′ .left .state) v (length b′) (omega (arith, shape-fits st (length b) et ht)));
+        }
+
 -- ---- call
 
 refused-first : (a : Answer) (x : Script) (w : World) (bytes : List ℕ) → isRefused a ≡ true → callRecord a x w bytes ≡ result a w
@@ -117,103 +182,77 @@ unfolding callRecord serveRecord
 refused-first Done x w bytes h = let z : _≡_ {A = ℕ} 0 1 = cc in absurd (omega arith)
 refused-first (Refused r) x w bytes h = refl
 
-left-answer : (s : code.State) (a : Answer) (t : State) → leftOf s a t .answer ≡ a
-left-answer s Done t = refl
-left-answer s (Refused r) t = refl
-
-refused-left : (a : Answer) (x : Script) (w : World) (bytes : List ℕ) → isRefused (callRecord a x w bytes .answer) ≡ true → callRecord a x w bytes .left ≡ w
-refused-left a x w bytes h = go (callRecord a x w bytes .answer) refl h
-  where
-    go : (y : Answer) → callRecord a x w bytes .answer ≡ y → isRefused y ≡ true → callRecord a x w bytes .left ≡ w
-    go Done e k = let z : _≡_ {A = ℕ} 0 1 = cc in absurd (omega arith)
-    go (Refused r) e k = record-refused a x w bytes r e
-
-module _ (src tree st b bytes : List ℕ) where
-  called-refused : {n : ℕ} {b′ : List ℕ} → isRefused (callResult src tree st b bytes .answer) ≡ true → Answers n (callResult src tree st b bytes .answer)
-      → b′ ≡ callResult src tree st b bytes .left .buffer → Called src tree st b bytes n st b′
-  called-refused h en eb = record {
-    answer = en .number;
-    place-fits = en .fits;
-    state = stays st (callResult src tree st b bytes .answer) _ h;
-    buffer = eb;
-    reads = never-done (callResult src tree st b bytes .answer) h;
-    shape = never-done (callResult src tree st b bytes .answer) h;
-  }
-
-  pub call-misshapen : {n : ℕ} {t : Bool} {a a′ : Answer} → t ≡ shaped st (length b) → t ≡ false → a ≡ opening src tree → a′ ≡ thenShape a false
-      → Packed 0 0 a′ n → Called src tree st b bytes n st b
-  call-misshapen {n} {t} {a} {a′} et h ea ea′ en =
+module _ (src tree st b bytes : List ℕ) {t : Bool} (et : t ≡ shaped st (length b)) where
+  pub call-misshapen : {n : ℕ} {a a′ : Answer} → t ≡ false → a ≡ opening src tree → a′ ≡ thenShape a false → Packed (placeWord 0 0 a′) a′ n → Called src tree st b bytes n st b
+  call-misshapen h ea ea′ en =
       let f : shaped st (length b) ≡ false = sym et ∙ h in
-      let r : callResult src tree st b bytes ≡ result (thenShape (opening src tree) false) (world (stateIn st) b) =
-      rw f (refused-first (thenShape (opening src tree) false) (scriptIn src tree) (world (stateIn st) b) bytes (then-bad (opening src tree))) in
-      called-refused (rw r (then-bad (opening src tree))) (rw r (packs-open src tree false a′ (ea′ ∙ ap (λ (y : Answer). thenShape y false) ea) en)) (rw r)
+      handed-misshapen src tree st b (callResult src tree st b bytes)
+      (rw f (refused-first (thenShape (opening src tree) false) (scriptIn src tree) (world (stateIn st) b) bytes (then-bad (opening src tree)))) ea ea′ en
 
--- the state has the shape, and the engine was asked
-module _ (src tree st b bytes : List ℕ) {t : Bool} (et : t ≡ shaped st (length b)) (ht : t ≡ true) {s : code.State} (es : s ≡ codeState st) {z : Step} {b′ : List ℕ}
-    (promised : Served s z b′ (recordLeft src tree s b bytes)) where
-  by-engine : Result
-  by-engine = recordLeft src tree (codeState st) b bytes
+  module _ (ht : t ≡ true) {s : code.State} (es : s ≡ codeState st) {z : Step} {b′ : List ℕ} (promised : Served s z b′ (recordLeft src tree s b bytes)) where
+    by-engine : Result
+    by-engine = recordLeft src tree (codeState st) b bytes
 
-  served : Served (codeState st) z b′ by-engine
-  unfolding by-engine
-  served = rw es at promised
-
-  asked : callResult src tree st b bytes ≡ callRecord (opening src tree) (scriptIn src tree) (world (stateIn st) b) bytes
-  asked = let f : shaped st (length b) ≡ true = sym et ∙ ht in rw (f, then-good (opening src tree))
-
-  agreed : Agree (wordAt st 0) (wordAt st 4) (callResult src tree st b bytes) by-engine
-  unfolding by-engine
-  agreed = rw asked (agree (opening src tree) (scriptIn src tree) st b bytes (rw (then-good (opening src tree)) at (open-placed (opened src tree) true (wordAt st 0) (wordAt st 4))))
-
-  answered : z .answer ≡ by-engine .answer
-  answered = ap (λ (y : Step). y .answer) (served .step) ∙ left-answer (codeState st) (by-engine .answer) (by-engine .left .state)
-
-  pub call-refused : {n len indent : ℕ} {u : Bool} → u ≡ isRefused (z .answer) → u ≡ true → len ≡ wordAt st 0 → indent ≡ wordAt st 4
-      → Packed len indent (z .answer) n → Called src tree st b bytes n st b′
-  unfolding by-engine
-  call-refused {n} {len} {indent} {u} eu hu el ei en =
-      let h′ : isRefused (by-engine .answer) ≡ true = ap isRefused (sym answered) ∙ sym eu ∙ hu in
-      let h : isRefused (callResult src tree st b bytes .answer) ≡ true = agreed .alike ∙ h′ in
-      let l′ : by-engine .left .buffer ≡ b = ap (λ (w : World). w .buffer) (refused-left (opening src tree) (scriptIn src tree) (world (stateOf (codeState st)) b) bytes h′) in
-      let l : callResult src tree st b bytes .left .buffer ≡ b = ap (λ (w : World). w .buffer) (refused-left _ (scriptIn src tree) (world (stateIn st) b) bytes h) in
-      called-refused src tree st b bytes h
-      (packs (callResult src tree st b bytes .answer) (by-engine .answer) (rw (el, ei, answered) at en) (agreed .number) (agreed .place))
-      (served .buffer ∙ l′ ∙ sym l)
-
-  module _ {u : Bool} (eu : u ≡ isRefused (z .answer)) (hu : u ≡ false) where
-    went : by-engine .answer ≡ Done
-    went = is-done (by-engine .answer) (ap isRefused (sym answered) ∙ sym eu ∙ hu)
-
-    same : callResult src tree st b bytes ≡ by-engine
-    same = agreed .same went
-
-    state-is : z .state ≡ encoded (by-engine .left .state)
-    state-is = ap (λ (y : Step). y .state) (served .step) ∙ rw went
-
-    bounded : Bounded (length b) (by-engine .left .state)
+    served : Served (codeState st) z b′ by-engine
     unfolding by-engine
-    bounded = record-bounded (opening src tree) (scriptIn src tree) (world (stateOf (codeState st)) b) bytes went
+    served = rw es at promised
 
-    len-is : z .state .now .len ≡ by-engine .left .state .len
-    len-is = ap (λ (y : code.State). y .now .len) state-is
+    agreed : Agree (placeWord (wordAt st 0) (wordAt st 4)) (callResult src tree st b bytes) by-engine
+    unfolding by-engine
+    agreed =
+        let f : shaped st (length b) ≡ true = sym et ∙ ht in
+        rw (f, then-good (opening src tree)) (agree (opening src tree) (scriptIn src tree) st b bytes (rw (then-good (opening src tree)) at (open-placed (opened src tree) true (wordAt st 0) (wordAt st 4))))
 
-    pub call-len : z .state .now .len < 4294967296
-    call-len = omega (arith, len-is, bounded .fits, shape-fits st (length b) et ht)
+    bounded : by-engine .answer ≡ Done → Bounded (length b) (by-engine .left .state)
+    unfolding by-engine
+    bounded = record-bounded (opening src tree) (scriptIn src tree) (world (stateOf (codeState st)) b) bytes
 
-    words : ((i : ℕ) → getD (codeWords (z .state)) i 0 < 0x100000000) → Words (by-engine .left .state)
-    words f = record { fit = subst (λ (y : code.State). (i : ℕ) → getD (codeWords y) i 0 < 0x100000000) state-is f; few = bounded .room }
+    pub call-refused : {n len indent : ℕ} {u : Bool} → u ≡ isRefused (z .answer) → u ≡ true → len ≡ wordAt st 0 → indent ≡ wordAt st 4
+        → Packed (placeWord len indent (z .answer)) (z .answer) n → Called src tree st b bytes n st b′
+    call-refused eu hu el ei en = asked-refused st b et ht (callResult src tree st b bytes) by-engine agreed served eu hu (rw (el, ei) at en)
 
-    pub call-done : {st′ : List ℕ} → length b′ ≡ length b → Wrote (codeWords (z .state)) st′ → Called src tree st b bytes 0 st′ b′
-    unfolding packed bytesOf
-    call-done {st′} long e =
-        let d : callResult src tree st b bytes .answer ≡ Done = ap (λ (y : Result). y .answer) same ∙ went in
-        let k : st′ ≡ bytesOf (by-engine .left .state) = e .bytes-are ∙ ap (λ (y : code.State). inBytes (codeWords y)) state-is in
-        let v = words (e .fit) in
-        record {
-          answer = rw d;
-          place-fits = rw d (omega arith);
-          state = k ∙ rw (d, same);
-          buffer = served .buffer ∙ rw same;
-          reads = λ _. rw (k, same) (reads-back (by-engine .left .state) v);
-          shape = λ _. rw k (shaped-back (by-engine .left .state) v (length b′) (omega (arith, shape-fits st (length b) et ht)));
-        }
+    module _ {u : Bool} (eu : u ≡ isRefused (z .answer)) (hu : u ≡ false) where
+      pub call-len : z .state .now .len < 4294967296
+      call-len = asked-len st b et ht (callResult src tree st b bytes) by-engine agreed served bounded eu hu
+
+      pub call-done : {st′ : List ℕ} → length b′ ≡ length b → Wrote (codeWords (z .state)) st′ → Called src tree st b bytes 0 st′ b′
+      call-done = asked-done st b et ht (callResult src tree st b bytes) by-engine agreed served bounded eu hu
+
+-- ---- run
+
+module _ (src tree st b : List ℕ) (k : ℕ) {t : Bool} (et : t ≡ shaped st (length b)) where
+  pub run-misshapen : {n : ℕ} {a a′ : Answer} → t ≡ false → a ≡ opening src tree → a′ ≡ thenShape a false → Packed (placeWord 0 0 a′) a′ n → Laid src tree st b k n st b
+  run-misshapen h ea ea′ en = let f : shaped st (length b) ≡ false = sym et ∙ h in handed-misshapen src tree st b (runResult src tree st b k) (rw f) ea ea′ en
+
+  module _ (ht : t ≡ true) {s : code.State} (es : s ≡ codeState st) (small : s .now .len < 0x100000000) {z : Step} {b′ : List ℕ} (promised : Served s z b′ (laidOut src tree s b (record { 0 = k }))) where
+    by-rules : Result
+    by-rules = laidOut src tree (codeState st) b (record { 0 = k })
+
+    laid-served : Served (codeState st) z b′ by-rules
+    unfolding by-rules
+    laid-served = rw es at promised
+
+    len-small : wordAt st 0 < 0x100000000
+    len-small = rw es at small
+
+    laid-agreed : Agree (runPlaceWord (wordAt st 4)) (runResult src tree st b k) by-rules
+    unfolding by-rules
+    laid-agreed =
+        let f : shaped st (length b) ≡ true = sym et ∙ ht in
+        rw f (agree-run (opening src tree) (scriptIn src tree) st b (layoutOf tree k) len-small (shape-fits st (length b) et ht) (open-word (opened src tree) (wordAt st 4)) (layout-tame (records tree) (record { 0 = k })))
+
+    laid-bounded : by-rules .answer ≡ Done → Bounded (length b) (by-rules .left .state)
+    unfolding by-rules
+    laid-bounded =
+        run-bounded (scriptIn src tree) (world (stateOf (codeState st)) b) len-small (opening src tree) (open-word (opened src tree) (min (wordAt st 4) 255)) (shape-fits st (length b) et ht) (layoutOf tree k)
+        (layout-tame (records tree) (record { 0 = k }))
+
+    pub run-refused : {n indent : ℕ} {u : Bool} → u ≡ isRefused (z .answer) → u ≡ true → indent ≡ wordAt st 4 → Packed (runPlaceWord indent (z .answer)) (z .answer) n → Laid src tree st b k n st b′
+    run-refused eu hu ei en = asked-refused st b et ht (runResult src tree st b k) by-rules laid-agreed laid-served eu hu (rw ei at en)
+
+    module _ {u : Bool} (eu : u ≡ isRefused (z .answer)) (hu : u ≡ false) where
+      pub run-len : z .state .now .len < 4294967296
+      run-len = asked-len st b et ht (runResult src tree st b k) by-rules laid-agreed laid-served laid-bounded eu hu
+
+      pub run-done : {st′ : List ℕ} → length b′ ≡ length b → Wrote (codeWords (z .state)) st′ → Laid src tree st b k 0 st′ b′
+      run-done = asked-done st b et ht (runResult src tree st b k) by-rules laid-agreed laid-served laid-bounded eu hu

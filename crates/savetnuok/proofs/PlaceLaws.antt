@@ -77,6 +77,9 @@ module _ (x : Script) (cap : ℕ) (s : State) where
   asked-placed none = stops refl
   asked-placed (some c) = refuse-placed _ _ refl (there-placed (namedBy c) (act-placed c))
 
+  pub step-placed : (c : Call) → Placed (s .len) (s .indent) (step x cap s c)
+  step-placed c = asked-placed (some c)
+
   lent-placed : (a : Answer) {k : Outcome} → seen a .place ≡ placeWord (s .len) (s .indent) a → Placed (s .len) (s .indent) k → Placed (s .len) (s .indent) (lent a x cap s k)
   unfolding lentState
   lent-placed Done e p = refuse-placed _ _ refl (refuse-placed _ _ refl (refuse-placed _ _ refl p))

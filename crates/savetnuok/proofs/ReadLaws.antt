@@ -2,7 +2,7 @@
 use mathlib.Core.Path.{_≡_, refl, sym, ap, _∙_}
 use mathlib.Core.Bool.{Bool, true, false, cond, _||_}
 use mathlib.Core.List.{List}
-use Prim.Native.Nat.{ℕ, zero, suc, _+_, _-_, _*_, _%_, _≤_, _<_, min}
+use Prim.Native.Nat.{ℕ, zero, suc, _+_, _*_, _%_, _≤_, _<_, min}
 use native.Mathlib.Nat.{min-eq-left, min-eq-right}
 use native.Mathlib.Omega.{arith}
 use lib.ListN.{length, getD}
@@ -19,10 +19,10 @@ use Rattle.meaning.specs.Calls.{step}
 use Rattle.meaning.specs.Lent.{anyOutside, lentState, serveRecord}
 use Rattle.meaning.specs.Numbers.{refusalSeen, seen}
 use Rattle.meaning.specs.World.{World, world, Result, result, callRecord}
-use Rattle.output.specs.Run.{isRefused}
-use Rattle.output.specs.View.{tab, ringAt}
-use Rattle.output.specs.Served.{stateOf}
-use Rattle.output.proofs.TabLaws.{length-tab, tab-same}
+use Rattle.queue.specs.Run.{isRefused}
+use Rattle.queue.specs.View.{tab, ringAt}
+use Rattle.entry.specs.Served.{stateOf}
+use Rattle.queue.proofs.TabLaws.{length-tab, tab-same}
 use Rattle.savetnuok.specs.Words.{wordAt}
 use Rattle.savetnuok.specs.StateBytes.{commentAt, stateIn}
 use Rattle.savetnuok.specs.CodeState.{codeState, refusalPlace, placeWord}
@@ -58,11 +58,11 @@ module _ (st : List ℕ) where
 
 -- ---- states that 5 or 6 refuse, whatever is asked of them
 
-abbrev early : Answer → Bool → Bool → ℕ → ℕ → Refusal
+abbrev pub early : Answer → Bool → Bool → ℕ → ℕ → Refusal
 early (Refused r) t4 t5 len indent = r
 early Done t4 t5 len indent = cond t4 (NoRoom len) (cond t5 (QueueFull (record { 0 = 8192 })) (IndentOut indent))
 
-tests : (t4 t5 t6 : Bool) (len indent : ℕ) (o : Outcome) → t5 || t6 ≡ true
+pub tests : (t4 t5 t6 : Bool) (len indent : ℕ) (o : Outcome) → t5 || t6 ≡ true
     → refuseIf t4 (NoRoom len) (refuseIf t5 (QueueFull (record { 0 = 8192 })) (refuseIf t6 (IndentOut indent) o)) ≡ refused (early Done t4 t5 len indent)
 unfolding refuseIf
 tests true t5 t6 len indent o h = refl
@@ -74,61 +74,53 @@ or-true : (t : Bool) → t || true ≡ true
 or-true true = refl
 or-true false = refl
 
-abbrev fifth : Script → State → Bool
+abbrev pub fifth : Script → State → Bool
 fifth x s = ltb 256 (length (s .queue)) || anyOutside (x .source) (s .queue)
-
-refused-early : (a : Answer) (x : Script) (s : State) (b : List ℕ) (bytes : List ℕ) → fifth x s || ltb 64 (s .indent) ≡ true
-    → callRecord a x (world s b) bytes ≡ result (Refused (early a (ltb (length b) (s .len)) (fifth x s) (s .len) (s .indent))) (world s b)
-unfolding callRecord serveRecord lentState
-refused-early (Refused r) x s b bytes h = refl
-refused-early Done x s b bytes h = rw (tests (ltb (length b) (s .len)) (fifth x s) (ltb 64 (s .indent)) (s .len) (s .indent) (asked 0 (decode bytes) (step x (length b) s)) h)
 
 -- ---- so the two results agree
 
-pub record Agree (len indent : ℕ) (r r′ : Result) : Type 0 where
+-- r is what the bytes mean, r′ what the engine was asked; `word` is the word that the code hands out as a place
+pub record Agree (word : Answer → ℕ) (r r′ : Result) : Type 0 where
   pub number : seen (r .answer) .number ≡ seen (r′ .answer) .number
-  pub place : seen (r .answer) .place ≡ placeWord len indent (r′ .answer)
+  pub place : seen (r .answer) .place ≡ word (r′ .answer)
   pub alike : isRefused (r .answer) ≡ isRefused (r′ .answer)
+  pub buffer : r .left .buffer ≡ r′ .left .buffer
   pub same : r′ .answer ≡ Done → r ≡ r′
 
-agree-refused : {len indent : ℕ} (r r′ : Refusal) (w w′ : World) → refusalSeen r .number ≡ refusalSeen r′ .number → refusalSeen r .place ≡ refusalPlace len indent r′
-    → Agree len indent (result (Refused r) w) (result (Refused r′) w′)
-agree-refused r r′ w w′ n p = record { number = n; place = p; alike = refl; same = λ e. let z : _≡_ {A = ℕ} 0 1 = cc in absurd (omega arith) }
+agree-refused : {word : Answer → ℕ} (r r′ : Refusal) (w w′ : World) → refusalSeen r .number ≡ refusalSeen r′ .number → refusalSeen r .place ≡ word (Refused r′) → w .buffer ≡ w′ .buffer
+    → Agree word (result (Refused r) w) (result (Refused r′) w′)
+agree-refused r r′ w w′ n p b = record { number = n; place = p; alike = refl; buffer = b; same = λ e. let z : _≡_ {A = ℕ} 0 1 = cc in absurd (omega arith) }
 
-agree-early : (a : Answer) (t4 t5 : Bool) (len indent indent′ : ℕ) (w w′ : World) → seen a .place ≡ placeWord len indent a
-    → Agree len indent (result (Refused (early a t4 t5 len indent)) w) (result (Refused (early a t4 t5 len indent′)) w′)
-agree-early Done true t5 len indent indent′ w w′ e = agree-refused _ _ w w′ refl refl
-agree-early Done false true len indent indent′ w w′ e = agree-refused _ _ w w′ refl refl
-agree-early Done false false len indent indent′ w w′ e = agree-refused _ _ w w′ refl refl
-agree-early (Refused r) t4 t5 len indent indent′ w w′ e = agree-refused r r w w′ refl e
+early-number : (a : Answer) (t4 t5 : Bool) (len indent indent′ : ℕ) → refusalSeen (early a t4 t5 len indent) .number ≡ refusalSeen (early a t4 t5 len indent′) .number
+early-number Done true t5 len indent indent′ = refl
+early-number Done false true len indent indent′ = refl
+early-number Done false false len indent indent′ = refl
+early-number (Refused r) t4 t5 len indent indent′ = refl
 
-module _ (a : Answer) (x : Script) (st b bytes : List ℕ) (e : seen a .place ≡ placeWord (wordAt st 0) (wordAt st 4) a) where
-  by-bytes : Result
-  by-bytes = callRecord a x (world (stateIn st) b) bytes
-
-  by-code : Result
-  by-code = callRecord a x (world (stateOf (codeState st)) b) bytes
-
-  same-state : stateIn st ≡ stateOf (codeState st) → Agree (wordAt st 0) (wordAt st 4) by-bytes by-code
-  unfolding by-bytes by-code stateIn
+-- for whatever is asked of a state: refused early it leaves the state, and a buffer that hangs on its length
+module _ (a : Answer) (x : Script) (st b : List ℕ) (does : State → Result) (left : ℕ → List ℕ) (word : Answer → ℕ)
+    (stopped : (s : State) → fifth x s || ltb 64 (s .indent) ≡ true → does s ≡ result (Refused (early a (ltb (length b) (s .len)) (fifth x s) (s .len) (s .indent))) (world s (left (s .len))))
+    (placed : seen (does (stateIn st) .answer) .place ≡ word (does (stateIn st) .answer))
+    (placed-early : (t4 t5 : Bool) → refusalSeen (early a t4 t5 (wordAt st 0) (wordAt st 4)) .place ≡ word (Refused (early a t4 t5 (wordAt st 0) (min (wordAt st 4) 255)))) where
+  same-state : stateIn st ≡ stateOf (codeState st) → Agree word (does (stateIn st)) (does (stateOf (codeState st)))
   same-state h =
-      let r : by-bytes ≡ by-code = ap (λ (s : State). callRecord a x (world s b) bytes) h in
-      let p = record-placed a x (world (stateIn st) b) bytes e in
+      let r : does (stateIn st) ≡ does (stateOf (codeState st)) = ap does h in
       record {
         number = ap (λ (z : Result). seen (z .answer) .number) r;
-        place = p ∙ ap (λ (z : Result). placeWord (wordAt st 0) (wordAt st 4) (z .answer)) r;
+        place = placed ∙ ap (λ (z : Result). word (z .answer)) r;
         alike = ap (λ (z : Result). isRefused (z .answer)) r;
+        buffer = ap (λ (z : Result). z .left .buffer) r;
         same = λ _. r;
       }
 
   both-early : fifth x (stateIn st) ≡ fifth x (stateOf (codeState st)) → fifth x (stateIn st) || ltb 64 (wordAt st 4) ≡ true
-      → fifth x (stateOf (codeState st)) || ltb 64 (min (wordAt st 4) 255) ≡ true → Agree (wordAt st 0) (wordAt st 4) by-bytes by-code
-  unfolding by-bytes by-code stateIn
+      → fifth x (stateOf (codeState st)) || ltb 64 (min (wordAt st 4) 255) ≡ true → Agree word (does (stateIn st)) (does (stateOf (codeState st)))
+  unfolding stateIn
   both-early f h h′ =
-      rw (refused-early a x (stateIn st) b bytes h, refused-early a x (stateOf (codeState st)) b bytes h′, f)
-      (agree-early a (ltb (length b) (wordAt st 0)) (fifth x (stateOf (codeState st))) (wordAt st 0) (wordAt st 4) (min (wordAt st 4) 255) _ _ e)
+      rw (stopped (stateIn st) h, stopped (stateOf (codeState st)) h′, f)
+      (agree-refused _ _ _ _ (early-number a (ltb (length b) (wordAt st 0)) (fifth x (stateOf (codeState st))) (wordAt st 0) (wordAt st 4) (min (wordAt st 4) 255)) (placed-early (ltb (length b) (wordAt st 0)) (fifth x (stateOf (codeState st)))) refl)
 
-  many : 256 < wordAt st 6 → Agree (wordAt st 0) (wordAt st 4) by-bytes by-code
+  many : 256 < wordAt st 6 → Agree word (does (stateIn st)) (does (stateOf (codeState st)))
   unfolding stateIn
   many l =
       let n : length (stateIn st .queue) ≡ wordAt st 6 = length-tab (commentAt st) 0 (wordAt st 6) in
@@ -137,16 +129,37 @@ module _ (a : Answer) (x : Script) (st b bytes : List ℕ) (e : seen a .place �
       let f′ : fifth x (stateOf (codeState st)) ≡ true = rw (n′, lt-ltb 256 (wordAt st 6) l) in
       both-early (f ∙ sym f′) (rw f) (rw f′)
 
-  deep : wordAt st 6 ≤ 256 → 255 < wordAt st 4 → Agree (wordAt st 0) (wordAt st 4) by-bytes by-code
+  deep : wordAt st 6 ≤ 256 → 255 < wordAt st 4 → Agree word (does (stateIn st)) (does (stateOf (codeState st)))
   deep few l =
       let m : min (wordAt st 4) 255 ≡ 255 = min-eq-right (omega arith) in
       both-early (ap (λ (q : List Comment). ltb 256 (length q) || anyOutside (x .source) q) (queue-same st few)) (rw (lt-ltb 64 (wordAt st 4) (omega arith)) (or-true (fifth x (stateIn st)))) (rw m (or-true (fifth x (stateOf (codeState st)))))
 
-  agree-at : (t u : Bool) → leb (wordAt st 6) 256 ≡ t → leb (wordAt st 4) 255 ≡ u → Agree (wordAt st 0) (wordAt st 4) by-bytes by-code
+  agree-at : (t u : Bool) → leb (wordAt st 6) 256 ≡ t → leb (wordAt st 4) 255 ≡ u → Agree word (does (stateIn st)) (does (stateOf (codeState st)))
   agree-at true true p q = same-state (state-same st (leb-true (wordAt st 6) 256 p) (leb-true (wordAt st 4) 255 q))
   agree-at true false p q = deep (leb-true (wordAt st 6) 256 p) (leb-false (wordAt st 4) 255 q)
   agree-at false u p q = many (leb-false (wordAt st 6) 256 p)
 
-  pub agree : Agree (wordAt st 0) (wordAt st 4) (callRecord a x (world (stateIn st) b) bytes) (callRecord a x (world (stateOf (codeState st)) b) bytes)
-  unfolding by-bytes by-code
-  agree = agree-at (leb (wordAt st 6) 256) (leb (wordAt st 4) 255) refl refl
+  pub agree-both : Agree word (does (stateIn st)) (does (stateOf (codeState st)))
+  agree-both = agree-at (leb (wordAt st 6) 256) (leb (wordAt st 4) 255) refl refl
+
+-- ---- a call record
+
+refused-early : (a : Answer) (x : Script) (s : State) (b : List ℕ) (bytes : List ℕ) → fifth x s || ltb 64 (s .indent) ≡ true
+    → callRecord a x (world s b) bytes ≡ result (Refused (early a (ltb (length b) (s .len)) (fifth x s) (s .len) (s .indent))) (world s b)
+unfolding callRecord serveRecord lentState
+refused-early (Refused r) x s b bytes h = refl
+refused-early Done x s b bytes h = rw (tests (ltb (length b) (s .len)) (fifth x s) (ltb 64 (s .indent)) (s .len) (s .indent) (asked 0 (decode bytes) (step x (length b) s)) h)
+
+early-placed : (a : Answer) (t4 t5 : Bool) (len indent indent′ : ℕ) → seen a .place ≡ placeWord len indent a
+    → refusalSeen (early a t4 t5 len indent) .place ≡ refusalPlace len indent (early a t4 t5 len indent′)
+early-placed Done true t5 len indent indent′ e = refl
+early-placed Done false true len indent indent′ e = refl
+early-placed Done false false len indent indent′ e = refl
+early-placed (Refused r) t4 t5 len indent indent′ e = e
+
+pub agree : (a : Answer) (x : Script) (st b bytes : List ℕ) → seen a .place ≡ placeWord (wordAt st 0) (wordAt st 4) a
+    → Agree (placeWord (wordAt st 0) (wordAt st 4)) (callRecord a x (world (stateIn st) b) bytes) (callRecord a x (world (stateOf (codeState st)) b) bytes)
+unfolding stateIn
+agree a x st b bytes e =
+    agree-both a x st b (λ (s : State). callRecord a x (world s b) bytes) (λ _. b) (placeWord (wordAt st 0) (wordAt st 4)) (λ s h. refused-early a x s b bytes h)
+    (record-placed a x (world (stateIn st) b) bytes e) (λ t4 t5. early-placed a t4 t5 (wordAt st 0) (wordAt st 4) (min (wordAt st 4) 255) e)

@@ -1,5 +1,5 @@
 -- A session through bytes is a history through states, so demand 3 holds of what it leaves. Assumes nothing.
-use mathlib.Core.Path.{_≡_, refl, sym, ap, _∙_}
+use mathlib.Core.Path.{_≡_, refl, sym, ap, subst, _∙_}
 use mathlib.Core.Bool.{Bool, true, false, _&&_}
 use mathlib.Core.List.{List, map}
 use Prim.Native.Nat.{ℕ, zero, suc, _≤_, _<_}
@@ -13,18 +13,19 @@ use Rattle.meaning.specs.declared.answer.Answer.the-variants.{Done, Refused}
 use Rattle.meaning.specs.State.{fresh}
 use Rattle.meaning.specs.Opening.{scriptIn, opening}
 use Rattle.meaning.specs.Numbers.{refusalSeen}
-use Rattle.output.specs.View.{wordsOf, slotsOf}
+use Rattle.queue.specs.View.{wordsOf, slotsOf}
 use Rattle.meaning.specs.World as World
-use Rattle.meaning.specs.World.{World, world, Result, callRecord}
-use Rattle.meaning.specs.History.{a-record, after, went}
+use Rattle.meaning.specs.World.{World, world, capacity, Result, callRecord}
+use Rattle.meaning.specs.Plan.{run}
+use Rattle.meaning.specs.History.{after, went}
 use Rattle.meaning.specs.Demand3.{Demand3}
 use Rattle.meaning.proofs.Numbers.{one-to-twelve}
-use Rattle.meaning.proofs.Leaves.{record-refused}
+use Rattle.meaning.proofs.Leaves.{record-refused, run-refused}
 use Rattle.meaning.proofs.Opens.{demand3-opened}
 use Rattle.savetnuok.specs.Words.{inBytes, wordBytes}
 use Rattle.savetnuok.specs.StateBytes.{shaped, stateIn, bytesOf}
-use Rattle.savetnuok.specs.Exported.{packed, thenShape, openAnswer, Opened, callResult, Called}
-use Rattle.savetnuok.specs.Session.{Session, ended, called}
+use Rattle.savetnuok.specs.Exported.{packed, thenShape, openAnswer, Opened, Handed, callResult, Called, layoutOf, runResult, Laid}
+use Rattle.savetnuok.specs.Session.{Turn, eventOf, Session, ended, called, laid}
 use Rattle.savetnuok.proofs.BackLaws.{Words, reads-back, shaped-back}
 
 -- ---- a fresh engine
@@ -58,54 +59,67 @@ then-done : (a : Answer) (t : Bool) → thenShape a t ≡ Done → a ≡ Done
 then-done Done t e = refl
 then-done (Refused r) t e = e
 
--- ---- one call
+-- ---- one call, or one run
+
+-- the bytes of state and buffer mean what is left, and have the shape that is asked
+record Linked (w : World) (st b : List ℕ) : Type 0 where
+  means : world (stateIn st) b ≡ w
+  shape : shaped st (length b) ≡ true
+
+-- what a refusal leaves: the lent state, and a buffer of the lent length
+record Kept (st b : List ℕ) (w : World) : Type 0 where
+  state : w .state ≡ stateIn st
+  size : capacity w ≡ length b
+
+link : (st b : List ℕ) (r : Result) {n : ℕ} {st₁ b₁ : List ℕ} → Handed st r n st₁ b₁ → shaped st (length b) ≡ true → ((q : Refusal) → r .answer ≡ Refused q → Kept st b (r .left)) → Linked (r .left) st₁ b₁
+link st b r {n} {st₁} {b₁} h s kept = go (r .answer) refl
+  where
+    go : (a : Answer) → r .answer ≡ a → Linked (r .left) st₁ b₁
+    go Done e = record { means = rw (h .reads e, h .buffer); shape = h .shape e }
+    go (Refused q) e =
+        let k = kept q e in
+        let es : st₁ ≡ st = h .state ∙ rw e in
+        record { means = rw (es, h .buffer, ← k .state); shape = rw (es, h .buffer, k .size) s }
 
 module _ (src tree : List ℕ) (opens : opening src tree ≡ Done) where
-  -- the bytes of state and buffer mean what the call leaves, and have the shape that is asked
-  record Linked (w : World) (st b : List ℕ) : Type 0 where
-    means : world (stateIn st) b ≡ w
-    shape : shaped st (length b) ≡ true
-
-  refused-link : (st b bytes : List ℕ) (r : Refusal) {st₁ b₁ : List ℕ} → callRecord Done (scriptIn src tree) (world (stateIn st) b) bytes .answer ≡ Refused r → st₁ ≡ st
-      → b₁ ≡ callRecord Done (scriptIn src tree) (world (stateIn st) b) bytes .left .buffer → shaped st (length b) ≡ true
+  call-link : (st b bytes : List ℕ) {st₁ b₁ : List ℕ} {n : ℕ} → Called src tree st b bytes n st₁ b₁ → shaped st (length b) ≡ true
       → Linked (callRecord Done (scriptIn src tree) (world (stateIn st) b) bytes .left) st₁ b₁
-  refused-link st b bytes r {st₁} {b₁} e es eb h =
-      let l : callRecord Done (scriptIn src tree) (world (stateIn st) b) bytes .left ≡ world (stateIn st) b = record-refused Done (scriptIn src tree) (world (stateIn st) b) bytes r e in
-      let k : b₁ ≡ b = eb ∙ ap (λ (w : World). w .buffer) l in
-      record { means = rw (es, k, l); shape = rw (es, k) h }
-
-  link : {st b bytes st₁ b₁ : List ℕ} {n : ℕ} → Called src tree st b bytes n st₁ b₁ → shaped st (length b) ≡ true
-      → Linked (callRecord Done (scriptIn src tree) (world (stateIn st) b) bytes .left) st₁ b₁
-  link {st} {b} {bytes} {st₁} {b₁} c h =
+  call-link st b bytes {st₁} {b₁} {n} c h =
       let q : callResult src tree st b bytes ≡ callRecord Done (scriptIn src tree) (world (stateIn st) b) bytes = rw (opens, h) in
-      go (callRecord Done (scriptIn src tree) (world (stateIn st) b) bytes .answer) refl q
-    where
-      go : (a : Answer) → callRecord Done (scriptIn src tree) (world (stateIn st) b) bytes .answer ≡ a → callResult src tree st b bytes ≡ callRecord Done (scriptIn src tree) (world (stateIn st) b) bytes
-          → Linked (callRecord Done (scriptIn src tree) (world (stateIn st) b) bytes .left) st₁ b₁
-      go Done e q =
-          let d : callResult src tree st b bytes .answer ≡ Done = ap (λ (r : Result). r .answer) q ∙ e in
-          let s = c .reads d in
-          record { means = rw (s, c .buffer, q); shape = c .shape d }
-      go (Refused r) e q = refused-link st b bytes r e (c .state ∙ rw (q, e)) (c .buffer ∙ rw q) h
+      link st b (callRecord Done (scriptIn src tree) (world (stateIn st) b) bytes) (subst (λ (r : Result). Handed st r n st₁ b₁) q c) h λ r e.
+      let l = record-refused Done (scriptIn src tree) (world (stateIn st) b) bytes r e in
+      record { state = ap (λ (w : World). w .state) l; size = ap capacity l }
 
-  -- ---- all calls of a session
+  run-link : (st b : List ℕ) (k : ℕ) {st₁ b₁ : List ℕ} {n : ℕ} → Laid src tree st b k n st₁ b₁ → shaped st (length b) ≡ true
+      → Linked (run Done (scriptIn src tree) (world (stateIn st) b) (layoutOf tree k) .left) st₁ b₁
+  run-link st b k {st₁} {b₁} {n} c h =
+      let q : runResult src tree st b k ≡ run Done (scriptIn src tree) (world (stateIn st) b) (layoutOf tree k) = rw (opens, h) in
+      link st b (run Done (scriptIn src tree) (world (stateIn st) b) (layoutOf tree k)) (subst (λ (r : Result). Handed st r n st₁ b₁) q c) h λ r e.
+      let l = run-refused Done (scriptIn src tree) (world (stateIn st) b) (layoutOf tree k) r e in
+      record { state = l .state; size = l .size }
 
-  row : {st b st′ b′ : List ℕ} {records : List (List ℕ)} → Session src tree st b records st′ b′ → shaped st (length b) ≡ true
-      → world (stateIn st′) b′ ≡ after Done (scriptIn src tree) (world (stateIn st) b) (map a-record records)
+  -- ---- all turns of a session
+
+  row : {st b st′ b′ : List ℕ} {turns : List Turn} → Session src tree st b turns st′ b′ → shaped st (length b) ≡ true
+      → world (stateIn st′) b′ ≡ after Done (scriptIn src tree) (world (stateIn st) b) (map (eventOf tree) turns)
   unfolding after
   row ended h = refl
-  row (called {more} c s) h =
-      let l = link c h in
-      row s (l .shape) ∙ ap (λ (w : World). after Done (scriptIn src tree) w (map a-record more)) (l .means)
+  row {st} {b} (called {bytes} {more} c s) h =
+      let l = call-link st b bytes c h in
+      row s (l .shape) ∙ ap (λ (w : World). after Done (scriptIn src tree) w (map (eventOf tree) more)) (l .means)
+  row {st} {b} (laid {k} {more} c s) h =
+      let l = run-link st b k c h in
+      row s (l .shape) ∙ ap (λ (w : World). after Done (scriptIn src tree) w (map (eventOf tree) more)) (l .means)
 
--- from an opening that answered 0, over a buffer whose length fits a word: demand 3 of the state and the buffer that the session leaves
-pub session-demand3 : (src tree st₀ buf : List ℕ) {st st′ b′ : List ℕ} {records : List (List ℕ)} → Opened src tree st₀ 0 st → length buf ≤ 0xFFFFFFFF → Session src tree st buf records st′ b′
-    → Demand3 (scriptIn src tree) (went Done (scriptIn src tree) (World.opened buf) (map a-record records)) (world (stateIn st′) b′)
-session-demand3 src tree st₀ buf {st} {st′} {b′} {records} o fits s =
+-- demand 3 at the level of the functions that C calls, over every history of calls and runs: from an opening that answered 0, over a buffer
+-- whose length fits a word, of the state and the buffer that the session leaves
+pub session-demand3 : (src tree st₀ buf : List ℕ) {st st′ b′ : List ℕ} {turns : List Turn} → Opened src tree st₀ 0 st → length buf ≤ 0xFFFFFFFF → Session src tree st buf turns st′ b′
+    → Demand3 (scriptIn src tree) (went Done (scriptIn src tree) (World.opened buf) (map (eventOf tree) turns)) (world (stateIn st′) b′)
+session-demand3 src tree st₀ buf {st} {st′} {b′} {turns} o fits s =
     let d : openAnswer src tree st₀ ≡ Done = zero-done (openAnswer src tree st₀) (sym (o .answer)) in
     let opens : opening src tree ≡ Done = then-done (opening src tree) (eqb (length st₀) 4128) d in
     let e : st ≡ bytesOf fresh = o .state ∙ rw d in
-    let r : world (stateIn st′) b′ ≡ after Done (scriptIn src tree) (World.opened buf) (map a-record records) =
+    let r : world (stateIn st′) b′ ≡ after Done (scriptIn src tree) (World.opened buf) (map (eventOf tree) turns) =
     row src tree opens s (rw e (shaped-back fresh fresh-words (length buf) fits))
-    ∙ ap (λ (w : World). after Done (scriptIn src tree) w (map a-record records)) (rw (e, reads-back fresh fresh-words)) in
-    rw r (demand3-opened src tree opens buf (map a-record records))
+    ∙ ap (λ (w : World). after Done (scriptIn src tree) w (map (eventOf tree) turns)) (rw (e, reads-back fresh fresh-words)) in
+    rw r (demand3-opened src tree opens buf (map (eventOf tree) turns))

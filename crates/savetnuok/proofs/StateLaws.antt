@@ -7,8 +7,8 @@ use native.Mathlib.Omega.{arith}
 use lib.ListN.{length, set, replicate}
 use lib.Seq.{set-at}
 use borrow.Author.Tests.{ne-eqb, lt-leb, le-leb}
-use Rattle.output.specs.View.{tab}
-use Rattle.output.proofs.TabLaws.{length-tab, tab-snoc}
+use Rattle.queue.specs.View.{tab}
+use Rattle.queue.proofs.TabLaws.{length-tab, tab-snoc}
 use Rattle.savetnuok.specs.Words.{wordAt}
 use Rattle.savetnuok.specs.StateBytes.{isFlag, commentWord, flagsGood, lineFlags, shaped}
 

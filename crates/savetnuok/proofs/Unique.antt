@@ -5,7 +5,8 @@ use native.Mathlib.Omega.{arith}
 use mathlib.Core.List.{List}
 use Rattle.meaning.specs.declared.answer.Answer.{Answer}
 use Rattle.meaning.specs.Numbers.{seen}
-use Rattle.savetnuok.specs.Exported.{packed, Opened, Called}
+use Rattle.meaning.specs.World.{Result}
+use Rattle.savetnuok.specs.Exported.{packed, Opened, Handed, callResult, Called, runResult, Laid}
 
 -- the answer, and every byte of what was lent
 pub record Same (n n′ : ℕ) (st st′ b b′ : List ℕ) : Type 0 where
@@ -17,8 +18,14 @@ module _ (src tree st : List ℕ) where
   pub open-once : {n n′ : ℕ} {st₁ st₂ : List ℕ} → Opened src tree st n st₁ → Opened src tree st n′ st₂ → (n ≡ n′) × (st₁ ≡ st₂)
   open-once h k = (h .answer ∙ sym (k .answer), h .state ∙ sym (k .state))
 
+  handed-once : (r : Result) {n n′ : ℕ} {st₁ st₂ b₁ b₂ : List ℕ} → Handed st r n st₁ b₁ → Handed st r n′ st₂ b₂ → Same n n′ st₁ st₂ b₁ b₂
+  handed-once r h k = record { answer = h .answer ∙ sym (k .answer); state = h .state ∙ sym (k .state); buffer = h .buffer ∙ sym (k .buffer) }
+
   pub call-once : (b bytes : List ℕ) {n n′ : ℕ} {st₁ st₂ b₁ b₂ : List ℕ} → Called src tree st b bytes n st₁ b₁ → Called src tree st b bytes n′ st₂ b₂ → Same n n′ st₁ st₂ b₁ b₂
-  call-once b bytes h k = record { answer = h .answer ∙ sym (k .answer); state = h .state ∙ sym (k .state); buffer = h .buffer ∙ sym (k .buffer) }
+  call-once b bytes = handed-once (callResult src tree st b bytes)
+
+  pub run-once : (b : List ℕ) (node : ℕ) {n n′ : ℕ} {st₁ st₂ b₁ b₂ : List ℕ} → Laid src tree st b node n st₁ b₁ → Laid src tree st b node n′ st₂ b₂ → Same n n′ st₁ st₂ b₁ b₂
+  run-once b node = handed-once (runResult src tree st b node)
 
 -- the number above, the place below
 pub unpacked : (a : Answer) → seen a .place < 0x100000000 → (packed a / 0x100000000 ≡ seen a .number) × (packed a % 0x100000000 ≡ seen a .place)

@@ -1,15 +1,17 @@
 -- How the bytes read as the code's own state, and which word a place is. Assumes nothing.
 use mathlib.Core.Path.{_≡_}
-use Prim.Native.Nat.{ℕ, _+_, _*_, _<_, min}
+use Prim.Native.Nat.{ℕ, _+_, _*_, _%_, _<_, min}
+use mathlib.Core.Bool.{cond}
 use mathlib.Core.List.{List, _∷_}
 use lib.ListN.{getD}
-use Rattle.output.specs.declared.state.State as code
+use lib.Dec.{ltb}
+use Rattle.entry.specs.declared.state.State as code
 use Rattle.meaning.specs.declared.answer.Refusal.{Refusal}
 use Rattle.meaning.specs.declared.answer.Refusal.the-variants.{SourceLong, SourceIll, TreeBad, NoRoom, QueueFull, IndentOut, TreeDeep, WrongKind, NoRule, Finished, NoNode, BadCall}
 use Rattle.meaning.specs.declared.answer.Answer.{Answer}
 use Rattle.meaning.specs.declared.answer.Answer.the-variants.{Done, Refused}
 use Rattle.meaning.specs.Numbers.{seen}
-use Rattle.output.specs.View.{tab, flagOf}
+use Rattle.queue.specs.View.{tab, flagOf}
 use Rattle.savetnuok.specs.Words.{wordAt, inBytes}
 use Rattle.savetnuok.specs.StateBytes.{flagAt}
 
@@ -56,7 +58,34 @@ abbrev pub placeWord : ℕ → ℕ → Answer → ℕ
 placeWord len indent Done = 0
 placeWord len indent (Refused r) = refusalPlace len indent r
 
+-- ---- the place of a run's refusal
+
+-- an indent over 64 was lent so, and is the word that was lent; within a run it stays from 0 to 64
+abbrev pub runIndent : ℕ → ℕ → ℕ
+runIndent indent n = cond (ltb 64 n) indent n
+
+-- as above, but a count is the refusal's own, cut to a word
+abbrev pub runPlace : ℕ → Refusal → ℕ
+runPlace indent SourceLong = 65536
+runPlace indent (SourceIll p) = p .0
+runPlace indent (TreeBad i) = i .0
+runPlace indent (NoRoom n) = n % 0x100000000
+runPlace indent (QueueFull i) = i .0
+runPlace indent (IndentOut n) = runIndent indent n
+runPlace indent (TreeDeep i) = i .0
+runPlace indent (WrongKind i) = i .0
+runPlace indent (NoRule i) = i .0
+runPlace indent (Finished n) = n % 0x100000000
+runPlace indent (NoNode k) = k .0
+runPlace indent (BadCall p) = p % 0x100000000
+
+abbrev pub runPlaceWord : ℕ → Answer → ℕ
+runPlaceWord indent Done = 0
+runPlaceWord indent (Refused r) = runPlace indent r
+
+-- ---- the sum
+
 -- the number above the place, which fits the word below it
-pub record Packed (len indent : ℕ) (a : Answer) (n : ℕ) : Type 0 where
-  pub is : n ≡ seen a .number * 0x100000000 + placeWord len indent a
-  pub fits : placeWord len indent a < 0x100000000
+pub record Packed (place : ℕ) (a : Answer) (n : ℕ) : Type 0 where
+  pub is : n ≡ seen a .number * 0x100000000 + place
+  pub fits : place < 0x100000000

@@ -1,17 +1,20 @@
 -- What the exported functions promise: the answer's number, and every byte of the lent state and of the lent buffer. Assumes nothing.
 use mathlib.Core.Path.{_≡_}
 use Prim.Native.Nat.{ℕ, _+_, _*_, _<_}
-use mathlib.Core.Bool.{Bool, true, false}
+use mathlib.Core.Bool.{Bool, true, false, cond}
 use mathlib.Core.List.{List}
 use lib.ListN.{length}
 use lib.Dec.{eqb}
+use Rattle.tree.specs.Records.{records}
 use Rattle.meaning.specs.declared.answer.Refusal.the-variants.{QueueFull}
 use Rattle.meaning.specs.declared.answer.Answer.{Answer}
 use Rattle.meaning.specs.declared.answer.Answer.the-variants.{Done, Refused}
 use Rattle.meaning.specs.State.{State, fresh}
 use Rattle.meaning.specs.Opening.{scriptIn, opening}
 use Rattle.meaning.specs.Numbers.{seen}
-use Rattle.meaning.specs.World.{world, Result, callRecord}
+use Rattle.meaning.specs.World.{world, Result, result, callRecord}
+use Rattle.meaning.specs.Plan.{Plan, run}
+use Rattle.format.specs.Rules.{layout}
 use Rattle.savetnuok.specs.StateBytes.{shaped, stateIn, bytesOf}
 
 -- 0 for done, else the refusal's number times 2^32, and its place, which each promise says to be below 2^32
@@ -39,17 +42,37 @@ pub record Opened (src tree st : List ℕ) (n : ℕ) (st′ : List ℕ) : Type 0
   pub place-fits : seen (openAnswer src tree st) .place < 0x100000000
   pub state : st′ ≡ stateLeft st (openAnswer src tree st) fresh
 
+-- ---- what a call and a run leave
+
+-- the lent state and the lent buffer are st and b before, st′ and b′ behind; r is what the meaning answers and leaves
+pub record Handed (st : List ℕ) (r : Result) (n : ℕ) (st′ b′ : List ℕ) : Type 0 where
+  pub answer : n ≡ packed (r .answer)
+  pub place-fits : seen (r .answer) .place < 0x100000000
+  pub state : st′ ≡ stateLeft st (r .answer) (r .left .state)
+  pub buffer : b′ ≡ r .left .buffer
+  -- what was written reads back as the state that is left, and can be lent again
+  pub reads : r .answer ≡ Done → stateIn st′ ≡ r .left .state
+  pub shape : r .answer ≡ Done → shaped st′ (length b′) ≡ true
+
 -- ---- call: 1, 2, 3, 7, the shape, then whatever the call record meets
 
 abbrev pub callResult : List ℕ → List ℕ → List ℕ → List ℕ → List ℕ → Result
 callResult src tree st b bytes = callRecord (thenShape (opening src tree) (shaped st (length b))) (scriptIn src tree) (world (stateIn st) b) bytes
 
--- the lent state and the lent buffer are st and b before the call, st′ and b′ behind it
-pub record Called (src tree st b bytes : List ℕ) (n : ℕ) (st′ b′ : List ℕ) : Type 0 where
-  pub answer : n ≡ packed (callResult src tree st b bytes .answer)
-  pub place-fits : seen (callResult src tree st b bytes .answer) .place < 0x100000000
-  pub state : st′ ≡ stateLeft st (callResult src tree st b bytes .answer) (callResult src tree st b bytes .left .state)
-  pub buffer : b′ ≡ callResult src tree st b bytes .left .buffer
-  -- what was written reads back as the state that the call left, and can be lent again
-  pub reads : callResult src tree st b bytes .answer ≡ Done → stateIn st′ ≡ callResult src tree st b bytes .left .state
-  pub shape : callResult src tree st b bytes .answer ≡ Done → shaped st′ (length b′) ≡ true
+abbrev pub Called : List ℕ → List ℕ → List ℕ → List ℕ → List ℕ → ℕ → List ℕ → List ℕ → Type 0
+Called src tree st b bytes n st′ b′ = Handed st (callResult src tree st b bytes) n st′ b′
+
+-- ---- run: 1, 2, 3, 7, the shape, then whatever the run on node k meets
+
+-- the calls of the node's rule
+abbrev pub layoutOf : List ℕ → ℕ → Plan
+layoutOf tree k = layout (records tree) (record { 0 = k })
+
+-- a refused run zeroes the buffer from the former length on; a state without the shape has none, so nothing is touched there
+abbrev pub runResult : List ℕ → List ℕ → List ℕ → List ℕ → ℕ → Result
+runResult src tree st b k =
+    cond (shaped st (length b)) (run (opening src tree) (scriptIn src tree) (world (stateIn st) b) (layoutOf tree k))
+    (result (thenShape (opening src tree) false) (world (stateIn st) b))
+
+abbrev pub Laid : List ℕ → List ℕ → List ℕ → List ℕ → ℕ → ℕ → List ℕ → List ℕ → Type 0
+Laid src tree st b k n st′ b′ = Handed st (runResult src tree st b k) n st′ b′

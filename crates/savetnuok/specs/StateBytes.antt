@@ -6,7 +6,7 @@ use lib.ListN.{length}
 use lib.Dec.{eqb, leb, ltb}
 use Rattle.tree.specs.Records.{spanOf}
 use Rattle.meaning.specs.State.{Comment, State}
-use Rattle.output.specs.View.{tab, flagOf, slotsOf}
+use Rattle.queue.specs.View.{tab, flagOf, slotsOf}
 use Rattle.savetnuok.specs.Words.{wordAt, inBytes}
 
 -- ---- the shape that a lent state must have

@@ -1,21 +1,23 @@
 // The functions that a C program links: numbers and byte slices only. Each asks all it needs of what is lent, and promises its answer
 // and every byte of what it may write.
 use crate::numbers::packed;
+use crate::numbers::run_packed;
 use crate::state_bytes::SIZE;
 use crate::state_bytes::read_state;
 use crate::state_bytes::shaped;
 use crate::state_bytes::write_state;
 use crate::words::word;
+use entry::checks::opening;
+use entry::engine::record;
+use entry::state::fresh;
+use format::runs::run;
 use meaning::answer::Answer;
 use meaning::answer::Refusal;
-use output::checks::opening;
-use output::engine::record;
-use output::state::fresh;
 use tree::record::RecordNo;
 ghost use mathlib.Core.Path.{_≡_};
 ghost use mathlib.Core.Bool.{false};
-ghost use Rattle.output.specs.Run.{isRefused};
-ghost use Rattle.savetnuok.specs.Exported.{thenShape, Opened, Called};
+ghost use Rattle.queue.specs.Run.{isRefused};
+ghost use Rattle.savetnuok.specs.Exported.{thenShape, Opened, Called, Laid};
 
 mod numbers;
 mod state_bytes;
@@ -74,6 +76,32 @@ pub extern "C" fn savetnuok_call(
         let answer = step.answer;
         if refused(answer) {
             return packed(answer, len, indent);
+        }
+        let s = step.state;
+        write_state(state, s);
+        return 0;
+    }
+    packed(misshapen(opening(source, tree)), 0, 0)
+}
+
+// A layout run on a node of the tree, on the lent state and buffer. Refused, it zeroes the buffer from the state's length on, unless the
+// shape is wrong: then there is no length to trust.
+#[no_mangle]
+pub extern "C" fn savetnuok_run(
+    source: &[u8],
+    tree: &[u8],
+    state: &mut [u8],
+    out: &mut [u8],
+    node: u32,
+) -> u64
+    ensures { λ r. ⌜ Laid (now (source .entry)) (now (tree .entry)) (now (state .entry)) (now (out .entry)) node r (now (state .exit)) (now (out .exit)) ⌝ }
+{
+    if shaped(state, out.len()) {
+        let indent = word(state, 4);
+        let step = run(source, tree, out, read_state(state), RecordNo(node));
+        let answer = step.answer;
+        if refused(answer) {
+            return run_packed(answer, indent);
         }
         let s = step.state;
         write_state(state, s);

@@ -1,13 +1,12 @@
 // The engine's state in bytes: the shape that is asked of it, read and written.
 use crate::words::word;
 use crate::words::write;
-use output::state::Small;
-use output::state::State;
+use entry::state::Small;
+use entry::state::State;
 ghost use mathlib.Core.Path.{_≡_};
 ghost use Prim.Native.Nat.{_<_, _≤_, min};
-ghost use mathlib.Core.Bool.{cond};
 ghost use lib.ListN.{length, set};
-ghost use Rattle.output.specs.View.{tab, flagOf};
+ghost use Rattle.queue.specs.View.{tab, flagOf};
 ghost use Rattle.savetnuok.specs.Words.{wordAt};
 ghost use Rattle.savetnuok.specs.StateBytes.{isFlag, flagAt, flagsGood, lineFlags, shaped};
 ghost use Rattle.savetnuok.specs.CodeState.{codeState, codeWords, Wrote};
@@ -118,10 +117,10 @@ fn at_most_255(w: u32) -> u8
     if w < 255 { w as u8 } else { 255 }
 }
 
-// The state that the engine is handed.
+// The state that the engine is handed; its length is a word.
 pub fn read_state(state: &[u8]) -> State
     requires { ⌜ length (now state) ≡ 4128 ⌝ }
-    ensures { λ r. ⌜ r ≡ codeState (now (state .entry)) ⌝ }
+    ensures { λ r. ⌜ (r ≡ codeState (now (state .entry))) × (r .now .len < 4294967296) ⌝ }
 {
     let now = Small {
         len: word(state, 0) as usize,

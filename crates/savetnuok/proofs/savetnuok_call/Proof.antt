@@ -20,7 +20,7 @@ returns c =
     let good = engine .before .before .before .before .before .before .before .before in
     let start = good .before .before .before .before .before .before .before .before in
     call-refused (start .args .source .now) (start .args .tree .now) (start .args .state .now) (start .args .out .now) (start .args .bytes .now)
-    (good .before .shaped .ensures) (good .if1 .taken) (engine .before .read-state .ensures) (engine .«record» .ensures)
+    (good .before .shaped .ensures) (good .if1 .taken) (engine .before .read-state .ensures .0) (engine .«record» .ensures)
     (c .before .before .refused .ensures) (c .before .if2 .taken) (engine .before .before .before .before .before .before .word .ensures) (engine .before .before .before .before .word2 .ensures) (c .packed .ensures)
 
 write-state-requires : tie.Need-write-state-requires
@@ -30,7 +30,7 @@ write-state-requires c κs =
     let start = good .before .before .before .before .before .before .before .before in (
       shape-sized _ _ (good .before .shaped .ensures) (good .if1 .taken),
       call-len (start .args .source .now) (start .args .tree .now) (start .args .state .now) (start .args .out .now) (start .args .bytes .now)
-          (good .before .shaped .ensures) (good .if1 .taken) (engine .before .read-state .ensures) (engine .«record» .ensures)
+          (good .before .shaped .ensures) (good .if1 .taken) (engine .before .read-state .ensures .0) (engine .«record» .ensures)
           (c .before .before .before .refused .ensures) (c .before .before .if2 .left),
     )
 
@@ -40,7 +40,7 @@ returns-2 c =
     let good = engine .before .before .before .before .before .before .before .before in
     let start = good .before .before .before .before .before .before .before .before in
     call-done (start .args .source .now) (start .args .tree .now) (start .args .state .now) (start .args .out .now) (start .args .bytes .now)
-    (good .before .shaped .ensures) (good .if1 .taken) (engine .before .read-state .ensures) (engine .«record» .ensures)
+    (good .before .shaped .ensures) (good .if1 .taken) (engine .before .read-state .ensures .0) (engine .«record» .ensures)
     (c .before .before .before .before .before .before .refused .ensures) (c .before .before .before .before .before .if2 .left) (engine .«record» .kept .1 .1 .0) (c .before .before .write-state .ensures)
 
 returns-3 : tie.Need-returns-3
