@@ -3,6 +3,7 @@
  *
  * You lend a script (the source), its tree, an engine (the state) and a buffer, all as bytes, and make calls: "write
  * node 7", "a space may stand here", "a new line may begin here". The library writes the laid-out text into the buffer.
+ * A run on a node makes the calls that lay out the node, by the rule of its kind, or none of them.
  * The comments that stand in the tree behind a written node wait in the engine until a call lets them out. None is
  * lost, doubled or passed by another, and none stands before the code that it followed.
  *
@@ -30,9 +31,9 @@
  *   - The library has no data of its own, allocates nothing, and calls nothing but memcpy, memmove, memset and memcmp.
  *     Calls on different states and buffers may run at the same time, on one source and tree, too. Two calls at the
  *     same time on one state or one buffer are forbidden.
- *   - A call needs up to SAVETNUOK_STACK_SIZE bytes of stack below its caller's frame. The proof knows no stack: where
- *     there is less, the system ends the program at the stack's guard page, if it has one. Size your threads' stacks by
- *     it.
+ *   - A call or run needs up to SAVETNUOK_STACK_SIZE bytes of stack below its caller's frame. The proof knows no stack:
+ *     where there is less, the system ends the program at the stack's guard page, if it has one. Size your threads'
+ *     stacks by it.
  */
 #ifndef SAVETNUOK_H
 #define SAVETNUOK_H
@@ -52,7 +53,7 @@ extern "C" {
 #define SAVETNUOK_DEPTH_MOST 64     /* levels of a tree; the top level is 1 */
 #define SAVETNUOK_WAITING_MOST 256  /* comments that wait */
 #define SAVETNUOK_INDENT_MOST 64    /* units of indentation, four spaces each */
-#define SAVETNUOK_STACK_SIZE 163840 /* bytes of stack that a call may need: 152,328 were measured */
+#define SAVETNUOK_STACK_SIZE 229376 /* bytes of stack that a run may need: 210,104 were measured; a call: 152,400 */
 
 /*
  * ---- what is lent ----
@@ -64,8 +65,8 @@ extern "C" {
  *              composite   kind (one byte, 80 to FF), start, end, number of all records below it: thirteen bytes
  *          Start and end are places in the source, on character boundaries, start <= end. Records lie inside the one
  *          that they are below, and none starts before the one beside it ends. Kind 00 is white space, 01 a line
- *          comment, 02 a block comment; of the others the calls of this header ask nothing. A node is a record by its
- *          number, from 0.
+ *          comment, 02 a block comment; of the others a call asks nothing, and a run asks for the kinds that its rule
+ *          needs (docs/KINDS.md). A node is a record by its number, from 0.
  *
  * state    The engine: SAVETNUOK_STATE_SIZE bytes, laid out as below. Lend it at each call as the last one left it.
  *
@@ -92,7 +93,8 @@ enum {
        record; 8,192 for too many. */
     SAVETNUOK_TREE_BAD = 3,
 
-    /* The text would pass the end of the buffer. Place: the output length before the call. */
+    /* The text would pass the end of the buffer. Place: the output length before the call; in a run, before the one of
+       its calls that found no room. */
     SAVETNUOK_NO_ROOM = 4,
 
     /* A 257th comment would wait. Place: its record.
@@ -101,20 +103,24 @@ enum {
        4,294,967,295 bytes. */
     SAVETNUOK_QUEUE_FULL = 5,
 
-    /* The indent would leave 0 to 64, or the lent one is over 64. Place: the present indent. */
+    /* The indent would leave 0 to 64, or the lent one is over 64. Place: the present indent; in a run, the one before
+       the call that was refused. */
     SAVETNUOK_INDENT_OUT = 6,
 
     /* A record of the tree stands at depth 65. Place: the record. */
     SAVETNUOK_TREE_DEEP = 7,
 
-    /* Of layout rules only: the functions of this header never give these two. */
+    /* Of runs only: a rule met a record of a kind that may not stand there, or none where it needs one, or a record was
+       left over. Place: the record met or left over; where there is none, the node whose records ended. */
     SAVETNUOK_WRONG_KIND = 8,
+
+    /* Of runs only: the node's kind has no rule. Place: the node. */
     SAVETNUOK_NO_RULE = 9,
 
     /* The engine is finished. Place: the output length. */
     SAVETNUOK_FINISHED = 10,
 
-    /* The tree has no such node. Place: the node number in the call record. */
+    /* The tree has no such node. Place: the node number in the call record, or of the run. */
     SAVETNUOK_NO_NODE = 11,
 
     /* The call record is empty, of unknown kind, cut, with bytes behind it, or with a body that is not listed.
@@ -175,6 +181,26 @@ enum { /* how comments are let out */
     SAVETNUOK_HINT_INFIX = 3   /* the same: a space between each two */
 };
 
+/* ---- kinds that have a rule: a run on a node of any other kind is refusal 9 ---- */
+
+enum {
+    SAVETNUOK_ITEM_STRUCT = 0x98,    /* struct a { b, c } */
+    SAVETNUOK_ITEM_ENUM = 0x99,      /* enum a { b, c } */
+    SAVETNUOK_ITEM_USE = 0x9B,       /* use a::{b, c as d} */
+    SAVETNUOK_ITEM_USE_PATH = 0xA0,  /* one path of such a group */
+    SAVETNUOK_ITEM_USE_GROUP = 0xA1, /* {b, c as d} */
+    SAVETNUOK_VARIANT = 0xA2,        /* a variant of an enum */
+    SAVETNUOK_STRUCT_BODY = 0xA3,    /* { a, b } */
+    SAVETNUOK_TUPLE_BODY = 0xA4,     /* (a, b) */
+    SAVETNUOK_FN_ARGS = 0xA7,        /* (a, b) of a function */
+    SAVETNUOK_PATH = 0xB0,           /* a::b::<c> */
+    SAVETNUOK_PATH_GENERICS = 0xB1,  /* <a, b> */
+    SAVETNUOK_PAT = 0xB2,            /* any pattern */
+    SAVETNUOK_PAT_ARRAY = 0xB3,      /* [a, b, ..] */
+    SAVETNUOK_PAT_TUPLE = 0xB4,      /* a(b, c, ..) */
+    SAVETNUOK_PAT_OBJECT = 0xB5      /* a { b: c, .. } */
+};
+
 /* ---- the state: byte offsets of its words, four bytes each, low byte first ---- */
 
 enum {
@@ -231,6 +257,23 @@ uint64_t savetnuok_open(const uint8_t *source, size_t source_len, const uint8_t 
  */
 uint64_t savetnuok_call(const uint8_t *source, size_t source_len, const uint8_t *tree, size_t tree_len, uint8_t *state,
                         size_t state_len, uint8_t *out, size_t out_len, const uint8_t *record, size_t record_len);
+
+/*
+ * Lays out a node: makes the calls of its kind's rule, all or none. Done, what they wrote stands in `out` behind the
+ * former text, and the state is the engine after them; no byte of `out` below the former length or beyond the new one
+ * is touched. Refused, no byte of `state` and no byte of `out` below the former length changes, and every byte of `out`
+ * from the former length to its end is 0, whatever refused the run: nothing of a layout that failed can be read. One
+ * case is apart: where state_len, a flag or out_len is wrong (the first 5 below) the state tells no length, and no byte
+ * of `out` is touched, whichever refusal is answered.
+ *
+ * Refusals, in the order in which they are asked:
+ *     1, 2, 3, 7   as at opening
+ *     5, 4, 5, 6   of what is lent, as at a call
+ *     10, 11, 9    the engine, the node, its kind
+ *     8, 4, 5, 6   of the rule and its calls, the first that they meet
+ */
+uint64_t savetnuok_run(const uint8_t *source, size_t source_len, const uint8_t *tree, size_t tree_len, uint8_t *state,
+                       size_t state_len, uint8_t *out, size_t out_len, uint32_t node);
 
 #ifdef __cplusplus
 }

@@ -1,9 +1,10 @@
 /*
- * Lays a script out, as the box's daemon does: opens, replays call records from a file, finishes, and prints the text.
+ * Lays a script out, as the box's daemon does: opens, replays steps from a file, finishes, and prints the text.
  *
  *     daemon SCRIPT TREE RECORDS [ROOM]
  *
  * RECORDS holds call records one behind the other, as include/savetnuok.h lists them; the kind says how long each is.
+ * Between them may stand layout runs: a byte E0, which no call record begins with, and the node's number in four bytes.
  * ROOM is the length of the buffer, 1,048,576 where it is not given. Exit status: 0 and the text on standard output; 1
  * and a refusal in words on standard error; 2 where the arguments or the files are at fault.
  */
@@ -20,6 +21,8 @@
 /* Nine times what a good tree can have: longer ones are somebody's mistake. */
 #define TREE_MOST (1u << 20)
 #define RECORDS_MOST (1u << 20)
+/* The first byte of a run, this program's own. */
+#define RUN 0xE0
 
 struct bytes {
     uint8_t *at;
@@ -78,8 +81,8 @@ static const struct words WORDS[] = {
     [SAVETNUOK_QUEUE_FULL] = {"queue full", "the comment of record ", " would be the 257th to wait"},
     [SAVETNUOK_INDENT_OUT] = {"indent out of bounds", "it is ", ", and stays in 0 to 64"},
     [SAVETNUOK_TREE_DEEP] = {"tree too deep", "record ", " stands at depth 65"},
-    [SAVETNUOK_WRONG_KIND] = {"wrong kind", "record ", ""},
-    [SAVETNUOK_NO_RULE] = {"no rule", "record ", ""},
+    [SAVETNUOK_WRONG_KIND] = {"wrong kind", "the rule cannot go on at record ", ""},
+    [SAVETNUOK_NO_RULE] = {"no rule", "there is none for the kind of record ", ""},
     [SAVETNUOK_FINISHED] = {"engine finished", "its text has ", " bytes"},
     [SAVETNUOK_NO_NODE] = {"no such node", "the tree has no record ", ""},
     [SAVETNUOK_BAD_CALL] = {"bad call record", "unknown, cut, or with a body that is not listed, from its byte ",
@@ -106,14 +109,15 @@ static void explain(uint64_t answer, const char *doing) {
             (unsigned long)place, words.after);
 }
 
-/* How long the record at the head of `rest` is. One of unknown kind takes all that is left, a cut one what there is:
+/* How long the step at the head of `rest` is. One of unknown kind takes all that is left, a cut one what there is:
    the library refuses both. */
-static size_t record_length(struct bytes rest) {
+static size_t step_length(struct bytes rest) {
     size_t want;
     switch (rest.at[0]) {
     case SAVETNUOK_WRITE_OWNED:
     case SAVETNUOK_WRITE_RAW:
     case SAVETNUOK_IGNORE:
+    case RUN:
         want = 5;
         break;
     case SAVETNUOK_LIT:
@@ -139,21 +143,32 @@ static uint64_t call(struct engine *e, const uint8_t *record, size_t len) {
                           e->out.len, record, len);
 }
 
-/* All records, and a finish if they end without one. */
+static int is_run(struct bytes step) { return step.at[0] == RUN && step.len == 5; }
+
+/* A cut run is a bad call record, too. */
+static uint64_t make(struct engine *e, struct bytes step) {
+    if (!is_run(step))
+        return call(e, step.at, step.len);
+    return savetnuok_run(e->script.at, e->script.len, e->tree.at, e->tree.len, e->state, sizeof e->state, e->out.at,
+                         e->out.len, savetnuok_word(step.at + 1));
+}
+
+/* All steps, and a finish if they end without one. */
 static int replay(struct engine *e, struct bytes records) {
     static const uint8_t finish[] = {SAVETNUOK_FINISH};
     char doing[64];
     size_t at = 0;
     for (unsigned long number = 0; at < records.len; number++) {
         struct bytes rest = {records.at + at, records.len - at};
-        size_t len = record_length(rest);
-        uint64_t answer = call(e, rest.at, len);
+        struct bytes step = {rest.at, step_length(rest)};
+        uint64_t answer = make(e, step);
         if (answer != 0) {
-            snprintf(doing, sizeof doing, "call %lu, at byte %lu of the records", number, (unsigned long)at);
+            snprintf(doing, sizeof doing, "%s %lu, at byte %lu of the records", is_run(step) ? "run" : "call", number,
+                     (unsigned long)at);
             explain(answer, doing);
             return 1;
         }
-        at += len;
+        at += step.len;
     }
     if (savetnuok_word(e->state + SAVETNUOK_STATE_FINISHED) == 1)
         return 0;

@@ -17,11 +17,25 @@
 
 #define BLOCKS_MOST 16384
 #define FEATURES 32768
+
+/* A breakpoint, and where the program stands when it has met one. */
+#if defined(__x86_64__)
+typedef uint8_t instruction;
 #define BREAKPOINT 0xCC
+#define STANDS_AT(context) ((context)->uc_mcontext.gregs[REG_RIP])
+#define BEHIND_IT 1
+#elif defined(__aarch64__)
+typedef uint32_t instruction;
+#define BREAKPOINT 0xD4200000u
+#define STANDS_AT(context) ((context)->uc_mcontext.pc)
+#define BEHIND_IT 0
+#else
+#error "no breakpoint is known for this processor"
+#endif
 
 __attribute__((section("__libfuzzer_extra_counters"))) static uint8_t counters[BLOCKS_MOST + FEATURES];
 
-static struct block { uint8_t *at, byte; } blocks[BLOCKS_MOST];
+static struct block { instruction *at, code; } blocks[BLOCKS_MOST];
 static size_t block_count, blocks_reached;
 
 void feature(unsigned sort, unsigned a, unsigned b, unsigned c) {
@@ -30,7 +44,7 @@ void feature(unsigned sort, unsigned a, unsigned b, unsigned c) {
 }
 
 /* The list ascends. */
-static struct block *find(uint8_t *at) {
+static struct block *find(instruction *at) {
     size_t low = 0, high = block_count;
     while (low < high) {
         size_t middle = (low + high) / 2;
@@ -42,24 +56,35 @@ static struct block *find(uint8_t *at) {
     return low < block_count && blocks[low].at == at ? &blocks[low] : NULL;
 }
 
+static void put_code(instruction *at, instruction code) {
+    *at = code;
+    __builtin___clear_cache((char *)at, (char *)(at + 1));
+}
+
 static void reached(int number, siginfo_t *info, void *context) {
-    greg_t *instruction = &((ucontext_t *)context)->uc_mcontext.gregs[REG_RIP];
-    struct block *block = find((uint8_t *)*instruction - 1);
+    ucontext_t *stopped = context;
+    struct block *block = find((instruction *)(STANDS_AT(stopped) - BEHIND_IT));
     (void)number, (void)info;
     if (block == NULL)
         abort();
-    *block->at = block->byte;
-    *instruction -= 1;
+    put_code(block->at, block->code);
+    STANDS_AT(stopped) -= BEHIND_IT;
     counters[block - blocks] = 1;
     blocks_reached++;
 }
 
-static void tell(void) {
-    printf("blocks of the library: %zu of %zu reached\ncalls:", blocks_reached, block_count);
-    for (int n = 0; n < 13; n++)
-        if (n != 8 && n != 9)
-            printf(n == 0 ? " done %2$llu" : " refused %1$d: %2$llu", n, (unsigned long long)answers[n]);
+static void tell_answers(const char *of, const uint64_t *counts) {
+    printf("%s: done %llu", of, (unsigned long long)counts[0]);
+    for (int n = 1; n < 13; n++)
+        if (counts[n] != 0)
+            printf(" refused %d: %llu", n, (unsigned long long)counts[n]);
     printf("\n");
+}
+
+static void tell(void) {
+    printf("blocks of the library: %zu of %zu reached\n", blocks_reached, block_count);
+    tell_answers("calls", answers);
+    tell_answers("runs", run_answers);
     const char *missed = getenv("SAVETNUOK_MISSED");
     FILE *file = missed != NULL ? fopen(missed, "w") : NULL;
     for (size_t i = 0; file != NULL && i < block_count; i++)
@@ -77,8 +102,8 @@ static void set_breakpoints(void) {
         exit(2);
     }
     for (size_t i = 0; i < block_count; i++) {
-        blocks[i].byte = *blocks[i].at;
-        *blocks[i].at = BREAKPOINT;
+        blocks[i].code = *blocks[i].at;
+        put_code(blocks[i].at, BREAKPOINT);
     }
 }
 
@@ -90,7 +115,7 @@ void watch_blocks(const char *list) {
         exit(2);
     }
     while (block_count < BLOCKS_MOST && fscanf(file, "%lx", &at) == 1)
-        blocks[block_count++].at = (uint8_t *)at;
+        blocks[block_count++].at = (instruction *)at;
     fclose(file);
     if (block_count == 0 || block_count == BLOCKS_MOST) {
         fprintf(stderr, "%s: %zu blocks\n", list, block_count);

@@ -23,7 +23,20 @@ uint32_t take_four(void) {
     return low | take_two() << 16;
 }
 
-enum { LEAF, OPEN, CLOSE, BLANK, LINE_COMMENT, BLOCK_COMMENT, REPEAT, NEST, END, INSTRUCTIONS };
+enum { LEAF, OPEN, CLOSE, BLANK, LINE_COMMENT, BLOCK_COMMENT, REPEAT, NEST, END, OPEN_RULED, TOKEN, INSTRUCTIONS };
+
+/* Kinds that have a rule, and those that stand in their nodes. */
+static const uint8_t RULED[] = {0x98, 0x99, 0x9B, 0xA0, 0xA1, 0xA2, 0xA3, 0xA4, 0xA7, 0xB0, 0xB1, 0xB2,
+                                0xB3, 0xB4, 0xB5, 0x82, 0x84, 0x85, 0x88, 0xA5, 0xA6, 0xC0};
+
+/* Tokens that their rules ask for. */
+static const struct token {
+    uint8_t kind;
+    const char *text;
+} TOKENS[] = {{0x03, "a"}, {0x05, "1"},  {0x08, "k"},      {0x09, "#"},    {0x0A, "_"},   {0x10, "("},   {0x11, ")"},
+              {0x12, "{"}, {0x13, "}"},  {0x14, "["},      {0x15, "]"},    {0x18, ","},   {0x1A, ":"},   {0x1B, "::"},
+              {0x1E, "-"}, {0x1F, ".."}, {0x21, "<"},      {0x22, ">"},    {0x29, "*"},   {0x31, "in"},  {0x3E, "as"},
+              {0x47, "pub"}, {0x48, "async"}, {0x40, "struct"}, {0x41, "enum"}, {0x43, "use"}};
 
 static const char *const PIECES[] = {"",
                                      "a",
@@ -123,16 +136,24 @@ static void comment(uint8_t kind, const char *head, const char *tail) {
     record(kind, start);
 }
 
-static int instruction(void) {
+static void leaf(uint8_t kind) {
     size_t start = b.source_len;
+    some_text();
+    record(kind, start);
+}
+
+static void token(const struct token *t) {
+    size_t start = b.source_len;
+    text(t->text);
+    record(t->kind, start);
+}
+
+static int instruction(void) {
     uint32_t times;
     switch (input.len == 0 ? END : take_byte() % INSTRUCTIONS) {
-    case LEAF: {
-        uint8_t kind = take_byte() & 0x7F;
-        some_text();
-        record(kind, start);
+    case LEAF:
+        leaf(take_byte() & 0x7F);
         break;
-    }
     case OPEN:
         open_composite(take_byte());
         break;
@@ -140,8 +161,7 @@ static int instruction(void) {
         close_composite();
         break;
     case BLANK:
-        some_text();
-        record(0, start);
+        leaf(0);
         break;
     case LINE_COMMENT:
         comment(1, "//", take_byte() % 2 ? " " : "");
@@ -156,6 +176,12 @@ static int instruction(void) {
     case NEST:
         for (uint32_t n = take_byte() % 80; n > 0; n--)
             open_composite(0x80);
+        break;
+    case OPEN_RULED:
+        open_composite(RULED[take_byte() % sizeof RULED]);
+        break;
+    case TOKEN:
+        token(&TOKENS[take_byte() % (sizeof TOKENS / sizeof *TOKENS)]);
         break;
     default:
         return 0;

@@ -1,5 +1,5 @@
 /*
- * What is checked after each call, from outside and without the rules of layout:
+ * What is checked after each call, from outside (runs.c: after each run):
  *
  *   Demand 1   The answer is 0 or a refusal of the header's list, its place in range. A refused call changes no byte of
  *              state or buffer. A success touches no byte below the former output length or beyond the new one, and
@@ -8,8 +8,6 @@
  *              let out, which stand at the head. The new text is the call's own text, or the texts let out in their
  *              order, and spaces and newlines; nothing else. After a finish none waits.
  */
-#include <stdarg.h>
-#include <stdio.h>
 #include <stdlib.h>
 #include <string.h>
 
@@ -17,54 +15,9 @@
 #include "check.h"
 #include "refusals.h"
 #include "savetnuok.h"
+#include "states.h"
 
-uint64_t answers[13];
-
-__attribute__((format(printf, 1, 2))) _Noreturn static void broken(const char *what, ...) {
-    va_list rest;
-    va_start(rest, what);
-    fputs("BROKEN: ", stderr);
-    vfprintf(stderr, what, rest);
-    fputs("\n", stderr);
-    va_end(rest);
-    abort();
-}
-
-#define HOLDS(fact, ...)                                                                                               \
-    do {                                                                                                               \
-        if (!(fact))                                                                                                   \
-            broken(__VA_ARGS__);                                                                                       \
-    } while (0)
-
-/* ---- states ---- */
-
-static uint32_t word(const uint8_t *state, size_t at) { return savetnuok_word(state + at); }
-
-static const uint8_t *comment(const uint8_t *state, size_t k) {
-    return state + SAVETNUOK_STATE_COMMENTS + k * SAVETNUOK_COMMENT_SIZE;
-}
-
-/* The form that every success leaves. */
-static void state_is_canonical(struct bytes source, const uint8_t *state, size_t out_len) {
-    HOLDS(word(state, SAVETNUOK_STATE_LENGTH) <= out_len, "the output length passes the buffer");
-    HOLDS(word(state, SAVETNUOK_STATE_USE_LINES) <= 1, "use_lines is no flag");
-    HOLDS(word(state, SAVETNUOK_STATE_WS) <= 1, "ws is no flag");
-    HOLDS(word(state, SAVETNUOK_STATE_INDENT) <= SAVETNUOK_INDENT_MOST, "indent is over 64");
-    HOLDS(word(state, SAVETNUOK_STATE_FINISHED) <= 1, "finished is no flag");
-    HOLDS(word(state, SAVETNUOK_STATE_ZERO) == 0, "the last word is not 0");
-    uint32_t waiting = word(state, SAVETNUOK_STATE_WAITING);
-    HOLDS(waiting <= SAVETNUOK_WAITING_MOST, "%u wait", waiting);
-    HOLDS(waiting == 0 || word(state, SAVETNUOK_STATE_FINISHED) == 0, "a comment waits after the finish");
-    for (uint32_t k = 0; k < waiting; k++) {
-        const uint8_t *c = comment(state, k);
-        uint32_t start = word(c, SAVETNUOK_COMMENT_START), end = word(c, SAVETNUOK_COMMENT_END);
-        HOLDS(start <= end && end <= source.len, "comment %u lies outside the source", k);
-        HOLDS(on_boundary(source, start) && on_boundary(source, end), "comment %u cuts a character", k);
-        HOLDS(word(c, SAVETNUOK_COMMENT_LINE) <= 1, "comment %u has no flag", k);
-    }
-    for (const uint8_t *free = comment(state, waiting); free < state + SAVETNUOK_STATE_SIZE; free++)
-        HOLDS(*free == 0, "a free comment is not 0");
-}
+uint64_t answers[13], run_answers[13];
 
 /* ---- answers ---- */
 
@@ -97,18 +50,6 @@ struct queue {
     uint8_t at[(SAVETNUOK_WAITING_MOST * 2) * SAVETNUOK_COMMENT_SIZE];
     uint32_t count;
 };
-
-/* Where record k of a good tree begins. */
-static size_t record_at(struct bytes tree, uint32_t k) {
-    size_t at = 0;
-    for (; k > 0; k--)
-        at += tree.at[at] < 0x80 ? 9 : 13;
-    return at;
-}
-
-static uint32_t below(struct bytes tree, size_t at) {
-    return tree.at[at] < 0x80 ? 0 : savetnuok_word(tree.at + at + 9);
-}
 
 static uint32_t newlines(struct bytes source, uint32_t start, uint32_t end) {
     uint32_t count = 0;
@@ -190,11 +131,8 @@ static void take_text(struct bytes *written, const uint8_t *text, size_t len) {
 }
 
 static void take_comment(const struct lent *l, struct bytes *written, const uint8_t *c) {
-    uint32_t start = word(c, SAVETNUOK_COMMENT_START), end = word(c, SAVETNUOK_COMMENT_END);
-    if (word(c, SAVETNUOK_COMMENT_LINE) == 1)
-        while (end > start && strchr(" \t\r", l->source.at[end - 1]) != NULL && l->source.at[end - 1] != '\0')
-            end--;
-    take_text(written, l->source.at + start, end - start);
+    struct bytes text = comment_text(l->source, c);
+    take_text(written, text.at, text.len);
 }
 
 static void take_own_text(const struct lent *l, struct bytes *written) {
@@ -264,18 +202,6 @@ static void answer_fits(const struct lent *l, uint64_t answer) {
 }
 
 /* ---- calls ---- */
-
-static uint8_t *copy_of(struct bytes b) {
-    uint8_t *copy = malloc(b.len + 1);
-    HOLDS(copy != NULL, "no memory");
-    if (b.len > 0)
-        memcpy(copy, b.at, b.len);
-    return copy;
-}
-
-static int same(struct bytes b, const uint8_t *copy, size_t from, size_t to) {
-    return from >= to || memcmp(b.at + from, copy + from, to - from) == 0;
-}
 
 uint64_t checked_open(struct lent *l) {
     uint8_t *old = copy_of(l->state);

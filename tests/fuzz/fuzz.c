@@ -1,13 +1,13 @@
 /*
- * The fuzz target: reads an input as a source, a tree, a buffer's length and a history of calls, and makes them, each
- * checked (check.c).
+ * The fuzz target: reads an input as a source, a tree, a buffer's length and a history of calls and runs, and makes
+ * them, each checked (check.c, runs.c).
  *
  * First byte even: the source and the tree are bytes of the input.
  *     source length, tree length, buffer length (2 bytes each), the source, the tree, the history
  * First byte odd: they are built by instructions, so that most trees are good, and a few bytes make a large one.
  *     buffer length (2 bytes), instructions up to END, the history
- * The history: a byte below C0 is a call's kind, with its body behind it (0B a finish, any other the rest by ten); a byte
- * from C0 on is a change to what is lent.
+ * The history: a byte below A0 is a call's kind, with its body behind it (0B a finish, any other the rest by ten); one
+ * below C0 a run, with its node behind it (2 bytes); a byte from C0 on is a change to what is lent.
  */
 #define _GNU_SOURCE
 #include <stdlib.h>
@@ -18,6 +18,7 @@
 #include "blocks.h"
 #include "build.h"
 #include "check.h"
+#include "refusals.h"
 #include "savetnuok.h"
 
 #define CALLS_MOST 120
@@ -74,6 +75,7 @@ static void raw(struct lent *l, size_t source_len, size_t tree_len) {
 
 /* The changes, by the byte's rest by eight. SCALAR: one of the eight words in front, or of the first comment's. */
 enum { RAW_RECORD, STATE_WORD, SCALAR, ROOM, STATE_LENGTH, OPEN_AGAIN, SOURCE_BYTE, TREE_BYTE, CHANGES };
+#define FIRST_RUN 0xA0
 #define FIRST_CHANGE 0xC0
 
 static uint32_t records_of(const struct lent *l) {
@@ -132,9 +134,8 @@ static void change_byte(struct bytes b) {
     *at = (uint8_t)take_byte();
 }
 
-static void call(struct lent *l, const uint8_t *bytes, size_t len) {
-    l->record = put(record_memory, bytes, len);
-    uint64_t answer = checked_call(l);
+/* What follows an answer: the history goes on from what was good last. */
+static void go_on(struct lent *l, uint64_t answer) {
     if (l->state.len != SAVETNUOK_STATE_SIZE)
         return;
     if (answer != 0)
@@ -144,6 +145,33 @@ static void call(struct lent *l, const uint8_t *bytes, size_t len) {
         answer = checked_open(l);
     if (answer == 0)
         note_good(l);
+}
+
+static void call(struct lent *l, const uint8_t *bytes, size_t len) {
+    l->record = put(record_memory, bytes, len);
+    go_on(l, checked_call(l));
+}
+
+/* The records whose kind has a rule: how many there are, or the number of the nth. */
+static uint32_t ruled(const struct lent *l, uint32_t nth) {
+    uint32_t number = 0, count = 0;
+    for (size_t at = 0; at < l->tree.len; at += l->tree.at[at] < 0x80 ? 9 : 13, number++)
+        if (has_a_rule(l->tree.at[at]) && count++ == nth)
+            return number;
+    return count;
+}
+
+/* By two bytes: below 8000 a record that has a rule; else any record or one or two more; seldom any number. */
+static uint32_t take_node(const struct lent *l) {
+    uint32_t bytes = take_two(), count = ruled(l, UINT32_MAX);
+    if (bytes >= 0xFFF0)
+        return bytes * 0x10001u;
+    return bytes < 0x8000 && count > 0 ? ruled(l, bytes % count) : (bytes & 0x7FFF) % (records_of(l) + 2);
+}
+
+static void run(struct lent *l) {
+    uint32_t node = take_node(l);
+    go_on(l, checked_run(l, node));
 }
 
 static void call_of_kind(struct lent *l, uint8_t kind) {
@@ -187,6 +215,7 @@ static void with_state_length(struct lent *l, size_t len) {
     l->state = put(state_memory, longer, len % STATE_MOST);
     checked_open(l);
     call_of_kind(l, 1 + take_byte() % SAVETNUOK_FINISH);
+    run(l);
     l->state = put(state_memory, longer, SAVETNUOK_STATE_SIZE);
 }
 
@@ -227,6 +256,8 @@ static void history(struct lent *l, int most) {
         uint32_t what = take_byte();
         if (what >= FIRST_CHANGE)
             change(l, what % CHANGES);
+        else if (what >= FIRST_RUN)
+            run(l);
         else
             call_of_kind(l, what == SAVETNUOK_FINISH ? SAVETNUOK_FINISH : 1 + (what + 9) % (SAVETNUOK_FINISH - 1));
     }

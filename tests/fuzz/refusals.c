@@ -1,7 +1,8 @@
-/* What a call is refused with before its own steps, from the header's words: the third time, beside the library and the
- * oracle's driver. */
+/* What a call or run is refused with before its own steps, from the header's words: the third time, beside the library
+ * and the oracle's driver. */
 #include "refusals.h"
 #include "savetnuok.h"
+#include "states.h"
 
 static uint64_t refusal(uint32_t number, uint32_t place) { return (uint64_t)number << 32 | place; }
 
@@ -11,7 +12,7 @@ int on_boundary(struct bytes source, uint32_t place) {
     return place == source.len || (place < source.len && (source.at[place] & 0xC0) != 0x80);
 }
 
-static int shape_is_good(const struct lent *l) {
+int shape_is_good(const struct lent *l) {
     const uint8_t *state = l->state.at;
     if (l->state.len != SAVETNUOK_STATE_SIZE || l->out.len > 0xFFFFFFFF)
         return 0;
@@ -57,7 +58,7 @@ static uint32_t records_of(struct bytes tree) {
     return n;
 }
 
-uint64_t refusal_before_its_steps(const struct lent *l) {
+static uint64_t refusal_of_what_is_lent(const struct lent *l) {
     if (!shape_is_good(l))
         return refusal(SAVETNUOK_QUEUE_FULL, SAVETNUOK_RECORDS_MOST);
     uint32_t length = savetnuok_word(l->state.at + SAVETNUOK_STATE_LENGTH);
@@ -66,16 +67,52 @@ uint64_t refusal_before_its_steps(const struct lent *l) {
         return refusal(SAVETNUOK_NO_ROOM, length);
     if (!queue_is_good(l))
         return refusal(SAVETNUOK_QUEUE_FULL, SAVETNUOK_RECORDS_MOST);
-    if (indent > SAVETNUOK_INDENT_MOST)
-        return refusal(SAVETNUOK_INDENT_OUT, indent);
+    return indent > SAVETNUOK_INDENT_MOST ? refusal(SAVETNUOK_INDENT_OUT, indent) : 0;
+}
+
+static uint64_t refusal_by_the_finish(const struct lent *l) {
+    if (savetnuok_word(l->state.at + SAVETNUOK_STATE_FINISHED) == 0)
+        return 0;
+    return refusal(SAVETNUOK_FINISHED, savetnuok_word(l->state.at + SAVETNUOK_STATE_LENGTH));
+}
+
+uint64_t refusal_before_its_steps(const struct lent *l) {
+    uint64_t lent = refusal_of_what_is_lent(l);
+    if (lent != 0)
+        return lent;
     if (!record_is_good(l->record))
         return refusal(SAVETNUOK_BAD_CALL, 0);
-    if (savetnuok_word(l->state.at + SAVETNUOK_STATE_FINISHED) == 1)
-        return refusal(SAVETNUOK_FINISHED, length);
+    uint64_t finished = refusal_by_the_finish(l);
+    if (finished != 0)
+        return finished;
     if (l->record.at[0] > SAVETNUOK_IGNORE)
         return 0;
     uint32_t node = savetnuok_word(l->record.at + 1);
     return node < records_of(l->tree) ? 0 : refusal(SAVETNUOK_NO_NODE, node);
+}
+
+int has_a_rule(uint8_t kind) {
+    static const uint8_t kinds[] = {SAVETNUOK_ITEM_STRUCT,   SAVETNUOK_ITEM_ENUM,      SAVETNUOK_ITEM_USE,
+                                    SAVETNUOK_ITEM_USE_PATH, SAVETNUOK_ITEM_USE_GROUP, SAVETNUOK_VARIANT,
+                                    SAVETNUOK_STRUCT_BODY,   SAVETNUOK_TUPLE_BODY,     SAVETNUOK_FN_ARGS,
+                                    SAVETNUOK_PATH,          SAVETNUOK_PATH_GENERICS,  SAVETNUOK_PAT,
+                                    SAVETNUOK_PAT_ARRAY,     SAVETNUOK_PAT_TUPLE,      SAVETNUOK_PAT_OBJECT};
+    for (size_t i = 0; i < sizeof kinds; i++)
+        if (kinds[i] == kind)
+            return 1;
+    return 0;
+}
+
+uint64_t refusal_before_its_rule(const struct lent *l, uint32_t node) {
+    uint64_t lent = refusal_of_what_is_lent(l);
+    if (lent != 0)
+        return lent;
+    uint64_t finished = refusal_by_the_finish(l);
+    if (finished != 0)
+        return finished;
+    if (node >= records_of(l->tree))
+        return refusal(SAVETNUOK_NO_NODE, node);
+    return has_a_rule(l->tree.at[record_at(l->tree, node)]) ? 0 : refusal(SAVETNUOK_NO_RULE, node);
 }
 
 /* The new indent, or -1 where it would leave its bounds. */

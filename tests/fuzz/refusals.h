@@ -1,4 +1,4 @@
-/* Which refusal a call meets before its own steps. */
+/* Which refusal a call meets before its own steps, and a run before its rule's. */
 #ifndef REFUSALS_H
 #define REFUSALS_H
 
@@ -6,6 +6,14 @@
 
 /* Of what is lent over a good source and tree: the answer, or 0 where the call's own steps decide. */
 uint64_t refusal_before_its_steps(const struct lent *l);
+
+/* The same of a run on a node; 0 where the rule decides. */
+uint64_t refusal_before_its_rule(const struct lent *l, uint32_t node);
+
+int has_a_rule(uint8_t kind);
+
+/* Are the state's length, its flags and the buffer's length such that the state can be read? */
+int shape_is_good(const struct lent *l);
 
 /* The new indent, or -1 where it would leave its bounds. */
 int indent_after(uint32_t indent, uint8_t by);

@@ -1,11 +1,12 @@
 /*
- * seeds FOLDER TREES CALLS: first inputs of the fuzz target. The recorded openings and histories, as inputs whose source
- * and tree are bytes; those with a source or a tree over 1,500 bytes are left out, as an input is better small. The
- * first histories again with a changed word of the state in them. Trees at the bounds, by instructions.
+ * seeds FOLDER TREES CALLS RUNS: first inputs of the fuzz target. The recorded openings and histories, as inputs whose
+ * source and tree are bytes; those with a source or a tree over 1,500 bytes are left out, as an input is better small.
+ * The first histories again with a changed word of the state in them. Trees at the bounds, by instructions.
  */
 #include "../outside/recorded.h"
 
 #define PART_MOST 1500
+#define RUN 0xA0
 #define RAW_RECORD 0xC0
 #define SCALAR 0xC2
 
@@ -73,10 +74,16 @@ static void one_tree(unsigned long number) {
     free(tree.at);
 }
 
+static int changed, with_runs;
+
 static void one_call(FILE *file) {
     size_t len = take_word();
     const uint8_t *record = take(len);
-    if (file != NULL) {
+    struct bytes step = {(uint8_t *)record, len};
+    if (file != NULL && with_runs && is_run(step)) {
+        fputc(RUN, file);
+        put_two(file, 0x8000 | run_node(step));
+    } else if (file != NULL) {
         fputc(RAW_RECORD, file);
         fputc((int)len, file);
         fwrite(record, 1, len, file);
@@ -86,8 +93,6 @@ static void one_call(FILE *file) {
     take(savetnuok_word(state + SAVETNUOK_STATE_WAITING) * (size_t)SAVETNUOK_COMMENT_SIZE);
     take(savetnuok_word(state + SAVETNUOK_STATE_LENGTH));
 }
-
-static int changed;
 
 static void one_history(unsigned long number) {
     struct bytes source = take_pieces(), tree = take_pieces();
@@ -116,15 +121,21 @@ static void built(void) {
 }
 
 int main(int argc, char **argv) {
-    if (argc != 4)
-        fail("usage", "seeds FOLDER TREES CALLS");
+    if (argc != 5)
+        fail("usage", "seeds FOLDER TREES CALLS RUNS");
     folder = argv[1];
     sort = "tree";
     each_case(argv[2], one_tree);
     sort = "calls";
     each_case(argv[3], one_history);
+    sort = "runs";
+    with_runs = 1;
+    each_case(argv[4], one_history);
     sort = "changed";
     changed = 1;
+    each_case(argv[4], one_history);
+    with_runs = 0;
+    sort = "changed-calls";
     each_case(argv[3], one_history);
     sort = "built";
     built();

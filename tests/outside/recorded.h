@@ -1,4 +1,4 @@
-/* Reads the recorded openings and histories, trees.bin and calls.bin, whose form oracle/README.md gives. */
+/* Reads the recorded openings and histories, trees.bin, calls.bin and runs.bin, whose form oracle/README.md gives. */
 #ifndef RECORDED_H
 #define RECORDED_H
 
@@ -78,6 +78,12 @@ static struct bytes read_file(const char *name) {
     fclose(file);
     return got;
 }
+
+/* Is a step of runs.bin a run, and on which node? */
+#define RUN_STEP 0xE0
+static int is_run(struct bytes step) { return step.len == 5 && step.at[0] == RUN_STEP; }
+
+static uint32_t run_node(struct bytes step) { return savetnuok_word(step.at + 1); }
 
 /* Does `one` for each case of a file; it must take the whole case. */
 static void each_case(const char *name, void (*one)(unsigned long number)) {

@@ -1,21 +1,21 @@
 /*
  * Replays recorded openings and histories through the exported functions, and compares every answer and every byte.
  *
- *     replay [--stack] [--every N] [--trees FILE]... [--calls FILE]...
+ *     replay [--stack] [--every N] [--trees FILE]... [--calls FILE]... [--runs FILE]...
  *
- * The files have the form that oracle/README.md gives for trees.bin and calls.bin. Every slice is a block of its own of
- * exactly its size, so that valgrind and the address sanitizer see a step outside. --every N takes each Nth case only;
- * --stack tells how much stack the calls took. Exit status: 0 where nothing differs, 1 where something does, 2 where
- * the arguments or files are at fault.
+ * The files have the form that oracle/README.md gives for trees.bin, calls.bin and runs.bin. Every slice is a block of
+ * its own of exactly its size, so that valgrind and the address sanitizer see a step outside. --every N takes each Nth
+ * case only; --stack tells how much stack the calls took. Exit status: 0 where nothing differs, 1 where something does,
+ * 2 where the arguments or files are at fault.
  */
 #include "recorded.h"
 
 #define FILL 0xEE
 #define DIFFERENCES_MOST 10
 
-static unsigned long every = 1, openings, calls, differences;
-static int measure_stack;
-static size_t open_stack, call_stack;
+static unsigned long every = 1, openings, calls, runs, differences;
+static int measure_stack, with_runs;
+static size_t open_stack, call_stack, run_stack;
 
 /* ---- the stack: painted below the caller's frame before a call, and looked at behind it ---- */
 
@@ -71,6 +71,18 @@ static uint64_t call_it(struct engine *e) {
     return answer;
 }
 
+static uint64_t run_it(struct engine *e) {
+    uint32_t node = run_node(e->record);
+    if (measure_stack)
+        paint();
+    uint64_t answer = savetnuok_run(e->source.at, e->source.len, e->tree.at, e->tree.len, e->state.at, e->state.len,
+                                    e->out.at, e->out.len, node);
+    if (measure_stack)
+        note(&run_stack, touched());
+    runs++;
+    return answer;
+}
+
 static void compare(const char *what, unsigned long number, int same) {
     if (same)
         return;
@@ -110,12 +122,16 @@ static void one_tree(unsigned long number) {
     free(e.state.at);
 }
 
-/* The recorded state: eight words, and four for each waiting comment; zero from there on. */
-static void take_state(uint8_t *state) {
+/* The recorded state: eight words, and four for each waiting comment; zero from there on. The eighth word is no part of
+   it: it tells whether the bytes behind the output are zero, which a refused run makes them. */
+static int take_state(uint8_t *state) {
     memset(state, 0, SAVETNUOK_STATE_SIZE);
     memcpy(state, take(32), 32);
     size_t len = savetnuok_word(state + SAVETNUOK_STATE_WAITING) * (size_t)SAVETNUOK_COMMENT_SIZE;
     memcpy(state + SAVETNUOK_STATE_COMMENTS, take(len), len);
+    int zeroed = state[SAVETNUOK_STATE_ZERO];
+    state[SAVETNUOK_STATE_ZERO] = 0;
+    return zeroed;
 }
 
 static void one_call(struct engine *e, unsigned long number, int run) {
@@ -124,14 +140,15 @@ static void one_call(struct engine *e, unsigned long number, int run) {
     if (e->record.len != 0)
         memcpy(e->record.at, take(e->record.len), e->record.len);
     uint64_t answer = take_answer();
-    take_state(want);
+    int zeroed = take_state(want);
     size_t len = savetnuok_word(want + SAVETNUOK_STATE_LENGTH);
     const uint8_t *output = take(len);
     if (run) {
-        compare("answer", number, call_it(e) == answer);
+        uint64_t got = with_runs && is_run(e->record) ? run_it(e) : call_it(e);
+        compare("answer", number, got == answer);
         compare("state", number, memcmp(e->state.at, want, sizeof want) == 0);
         compare("output", number, len == 0 || memcmp(e->out.at, output, len) == 0);
-        compare("bytes behind the output", number, all(e->out, len, FILL));
+        compare("bytes behind the output", number, all(e->out, len, zeroed ? 0 : FILL));
     }
     free(e->record.at);
 }
@@ -163,19 +180,21 @@ int main(int argc, char **argv) {
             every = strtoul(value, NULL, 10);
         else if (strcmp(argv[i], "--trees") == 0)
             each_case(value, one_tree);
-        else if (strcmp(argv[i], "--calls") == 0)
+        else if (strcmp(argv[i], "--calls") == 0 || strcmp(argv[i], "--runs") == 0) {
+            with_runs = argv[i][2] == 'r';
             each_case(value, one_history);
+        }
         else
             fail(argv[i], "not known");
         if (every == 0)
             fail("--every", "needs a number");
         i++;
     }
-    printf("  %lu openings and %lu calls replayed, %lu differ\n", openings, calls, differences);
+    printf("  %lu openings, %lu calls and %lu runs replayed, %lu differ\n", openings, calls, runs, differences);
     if (measure_stack)
-        printf("  stack below the caller's frame: opening %zu bytes, a call %zu bytes; the header says %d\n",
-               open_stack, call_stack, SAVETNUOK_STACK_SIZE);
-    if (measure_stack && (open_stack > SAVETNUOK_STACK_SIZE || call_stack > SAVETNUOK_STACK_SIZE)) {
+        printf("  stack below the caller's frame: opening %zu bytes, a call %zu, a run %zu; the header says %d\n",
+               open_stack, call_stack, run_stack, SAVETNUOK_STACK_SIZE);
+    if (open_stack > SAVETNUOK_STACK_SIZE || call_stack > SAVETNUOK_STACK_SIZE || run_stack > SAVETNUOK_STACK_SIZE) {
         printf("DIFFERS: the stack is deeper than the header says\n");
         return 1;
     }

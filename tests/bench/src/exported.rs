@@ -35,6 +35,17 @@ extern "C" {
         record: *const u8,
         record_len: usize,
     ) -> u64;
+    fn savetnuok_run(
+        source: *const u8,
+        source_len: usize,
+        tree: *const u8,
+        tree_len: usize,
+        state: *mut u8,
+        state_len: usize,
+        out: *mut u8,
+        out_len: usize,
+        node: u32,
+    ) -> u64;
 }
 
 /// A state in bytes; all zero is a fresh engine.
@@ -102,6 +113,28 @@ pub fn public_call(
             out.len(),
             record.as_ptr(),
             record.len(),
+        )
+    }
+}
+
+pub fn public_run(
+    source: &[u8],
+    tree: &[u8],
+    state: &mut [u8; STATE],
+    out: &mut [u8],
+    node: u32,
+) -> u64 {
+    unsafe {
+        savetnuok_run(
+            source.as_ptr(),
+            source.len(),
+            tree.as_ptr(),
+            tree.len(),
+            state.as_mut_ptr(),
+            STATE,
+            out.as_mut_ptr(),
+            out.len(),
+            node,
         )
     }
 }

@@ -3,6 +3,7 @@
 mod clock;
 mod exported;
 mod histories;
+mod nodes;
 mod public;
 mod rust;
 mod stack;
@@ -17,6 +18,7 @@ const TABLES: &[(&str, fn())] = &[
     ("single", tables::single),
     ("public", public::calls),
     ("growth", public::growth),
+    ("runs", public::runs),
     ("stack", stack::table),
 ];
 

@@ -1,11 +1,13 @@
 //! What a public call costs, which checks anew all that is lent, and how that
 //! grows with the source, the records and the queue.
+use oracle::alloc;
+
 use crate::clock::least;
-use crate::exported::{self, public_call, public_open, STATE};
+use crate::exported::{self, public_call, public_open, public_run, STATE};
 use crate::histories::{self, History, ROOM};
 use crate::rust::{self, record_len};
 use crate::texts::{self, SIZE};
-use crate::trees;
+use crate::{nodes, trees};
 
 const ROUNDS: u32 = 200;
 
@@ -124,4 +126,42 @@ pub fn growth() {
         &waiting,
         |n| idle(&trees::letters(64), &[], n),
     );
+}
+
+/// A run on record 0 of a fresh engine: the output's length.
+fn run(source: &[u8], tree: &[u8], out: &mut [u8]) -> u64 {
+    let mut state = [0; STATE];
+    assert_eq!(public_run(source, tree, &mut state, out, 0), 0);
+    u32::from_le_bytes(state[..4].try_into().unwrap()) as u64
+}
+
+/// Runs beside the Rust's on the same node. A public run checks anew all that is
+/// lent, as a call that changes nothing does: less that call it is the rule alone.
+pub fn runs() {
+    println!("\nA layout run, less what checking anew costs\n");
+    println!("| node                                         | proved, ns |   Rust, ns | ratio | public run, ns |");
+    println!("|----------------------------------------------|------------|------------|-------|----------------|");
+    for (name, source, tree) in nodes::all() {
+        let text = std::str::from_utf8(&source).unwrap();
+        let records = rust::tree(&tree);
+        let mut buffer = alloc::String::with_cap(ROOM);
+        let (mut out, mut out2) = (vec![0; ROOM], [0u8; 64]);
+        let len = rust::run(text, &records, &mut buffer).expect("no refusal");
+        assert_eq!(run(&source, &tree, &mut out), len as u64);
+        assert_eq!(out[..len], *buffer.text.as_bytes());
+        let best = least(
+            ROUNDS,
+            &mut [
+                &mut || run(&source, &tree, &mut out),
+                &mut || public_call(&source, &tree, &mut [0; STATE], &mut out2, &[6, 0]),
+                &mut || rust::run(text, &records, &mut buffer).unwrap() as u64,
+            ],
+        );
+        let (alone, theirs) = (best[0] - best[1], best[2]);
+        println!(
+            "| {name:44} | {alone:10.0} | {theirs:10.0} | {:5.2} | {:14.0} |",
+            alone / theirs,
+            best[0]
+        );
+    }
 }

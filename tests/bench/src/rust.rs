@@ -1,7 +1,7 @@
 //! The Rust's own `Formatter`, driven by call records: decoding, 10 and 11, and
 //! the call. Nothing is put back behind a refusal, and nothing is noted.
 use oracle::alloc;
-use oracle::call::Call;
+use oracle::call::{Call, Step};
 use oracle::engine::{refusal, Engine};
 use oracle::grammar::Tree;
 use oracle::opening::split;
@@ -45,6 +45,15 @@ pub fn calls(
         finished = call == Call::Finish;
         at = end;
     }
+    Ok(engine.fmt.len())
+}
+
+/// A run on record 0 from a fresh engine on: the output's length.
+pub fn run(source: &str, tree: &Tree, buffer: &mut alloc::String) -> Result<usize, Refusal> {
+    buffer.text.clear();
+    let mut diagnostics = Diagnostics;
+    let mut engine = Engine::new(source, tree, buffer, &mut diagnostics);
+    engine.step(Step::Run(0))?;
     Ok(engine.fmt.len())
 }
 

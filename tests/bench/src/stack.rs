@@ -1,6 +1,6 @@
 //! How much stack a public function takes, by painting the stack of a thread below
 //! the caller and looking how far the paint is gone.
-use crate::exported::{public_call, public_open, STATE};
+use crate::exported::{public_call, public_open, public_run, STATE};
 use crate::texts::SIZE;
 use crate::trees;
 
@@ -74,6 +74,13 @@ fn measure() {
         "savetnuok_call, the same, 256 waiting",
         deepest(&source, &chains, 256),
     );
+    for (name, tree) in trees::deep_nodes() {
+        let (mut state, mut out) = ([0; STATE], vec![0; SIZE]);
+        let run = &mut || {
+            assert_eq!(public_run(&source, &tree, &mut state, &mut out, 0), 0);
+        };
+        row(&format!("savetnuok_run, {name}"), used(run));
+    }
 }
 
 pub fn table() {

@@ -40,3 +40,38 @@ pub fn words(count: usize) -> (Vec<u8>, Vec<u8>) {
     }
     (b"word ".repeat(count), join(&list))
 }
+
+/// Nodes of 62 levels, two kinds in turn, each of which has a rule; a list's marks
+/// around each level.
+pub fn deep_nodes() -> Vec<(&'static str, Vec<u8>)> {
+    let sorts = [
+        (
+            "arrays in patterns, depth 63",
+            [0xB2, 0xB3, 0x14, 0x15, 0x1F],
+        ),
+        (
+            "tuples in patterns, depth 63",
+            [0xB2, 0xB4, 0x10, 0x11, 0x1F],
+        ),
+        (
+            "paths in generics, depth 63",
+            [0xB0, 0xB1, 0x21, 0x22, SPACE],
+        ),
+        ("groups in uses, depth 63", [0xA0, 0xA1, 0x12, 0x13, SPACE]),
+    ];
+    sorts.map(|(name, kinds)| (name, deep(kinds, 31))).to_vec()
+}
+
+fn deep([outer, inner, open, close, innermost]: [u8; 5], levels: u32) -> Vec<u8> {
+    let leaf = |kind, at| Rec::new(kind, at, at + 1, 0);
+    let mut list = vec![];
+    for i in 0..levels {
+        let (below, end) = (4 * (levels - i), 2 * levels + 1 - i);
+        list.push(Rec::new(outer, i, end, below));
+        list.push(Rec::new(inner, i, end, below - 1));
+        list.push(leaf(open, i));
+    }
+    list.push(leaf(innermost, levels));
+    list.extend((0..levels).map(|i| leaf(close, levels + 1 + i)));
+    join(&list)
+}

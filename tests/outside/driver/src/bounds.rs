@@ -1,10 +1,12 @@
 //! Cases at the bounds: queues around 256, sizes around every limit, empty slices,
 //! buffers around 4 GiB.
+use oracle::call::run_step;
 use oracle::gen::{self, Rng};
 use oracle::grammar::Rec;
 use oracle::opening::join;
 
-use crate::histories::{needed, replay};
+use crate::histories::{needed, replay, with_runs};
+use crate::large;
 use crate::lent::{self, STATE};
 use crate::reference::Script;
 use crate::session::{Differs, Session};
@@ -13,7 +15,8 @@ fn ignore(node: u32) -> Vec<u8> {
     [&[3][..], &node.to_le_bytes()].concat()
 }
 
-/// A name, so many comments behind it, some with newlines between, another name.
+/// A name, so many comments behind it, some with newlines between, another name;
+/// in a path, so that a run writes both.
 fn with_comments(rng: &mut Rng, count: usize) -> Script {
     let (mut text, mut records) = (String::new(), vec![]);
     let mut add = |kind: u8, piece: &str| {
@@ -33,6 +36,8 @@ fn with_comments(rng: &mut Rng, count: usize) -> Script {
         }
     }
     add(3, "z");
+    let path = Rec::new(0xB0, 0, text.len() as u32, records.len() as u32);
+    records.insert(0, path);
     Script::new(text.into_bytes(), join(&records))
 }
 
@@ -44,11 +49,16 @@ pub fn queues(s: &mut Session, rng: &mut Rng) -> Result<(), Differs> {
     let mut records = vec![];
     for _ in 0..rng.pick(&[1, 2, 6]) {
         let between = rng.pick(&[0, 1, 4]);
-        records.push(ignore(0));
+        records.push(ignore(1));
         records.extend(gen::history(rng, script.records().len(), between, 10));
     }
-    records.push(ignore(0));
-    records.extend(gen::history(rng, script.records().len(), 30, 10));
+    records.push(if rng.one_in(2) {
+        ignore(1)
+    } else {
+        run_step(0)
+    });
+    let more = gen::history(rng, script.records().len(), 30, 10);
+    records.extend(with_runs(rng, &script, more));
     let room = needed(&script, &records) + rng.below(20);
     replay(s, rng, &script, room, &records)
 }
@@ -91,6 +101,7 @@ fn sizes() -> Vec<Script> {
         inner.push(leaf(1, 0, 2));
         all.push(Script::new(b"//".to_vec(), join(&inner)));
     }
+    all.extend(large::all());
     all
 }
 
@@ -100,10 +111,12 @@ pub fn all_sizes(s: &mut Session, rng: &mut Rng) -> Result<(), Differs> {
         let last = script.records().len().saturating_sub(1) as u32;
         records.push(ignore(last));
         records.push(ignore(last + 1));
+        records.extend([0, 1, 2, last, last + 1, u32::MAX].map(run_step));
         records.push(vec![]);
         records.push(vec![0x08; 1_000]);
         records.push(vec![0x0B]);
         records.push(vec![0x08]);
+        records.push(run_step(0));
         for room in [0, 1, 66_000, 140_000] {
             replay(s, rng, &script, room, &records)?;
         }
@@ -120,15 +133,18 @@ fn state_lengths(s: &mut Session) -> Result<(), Differs> {
         s.lend_state(vec![0; len]);
         s.open(&script)?;
         s.call(&script, &[0x08])?;
+        s.run(&script, 0)?;
         s.lend_state(vec![0xFF; len]);
         s.call(&script, &[])?;
+        s.run(&script, 0)?;
     }
     Ok(())
 }
 
 /// Every value that a flag, the indent and the count may have, near their bounds.
 pub fn all_words(s: &mut Session) -> Result<(), Differs> {
-    let script = Script::new("é//".into(), join(&[leaf(3, 0, 2), leaf(1, 2, 4)]));
+    let path = [Rec::new(0xB0, 0, 4, 2), leaf(3, 0, 2), leaf(1, 2, 4)];
+    let script = Script::new("é//".into(), join(&path));
     s.lend(&script);
     s.lend_room(600);
     let values = (0..=300).chain([511, 512, 65_536, 1 << 24, 1 << 31, u32::MAX]);
@@ -138,8 +154,10 @@ pub fn all_words(s: &mut Session) -> Result<(), Differs> {
             lent::put_word(&mut state, lent::COUNT, 1);
             lent::put_word(&mut state, lent::of_comment(0, 1), 2);
             lent::put_word(&mut state, number, value);
-            s.lend_state(state);
+            s.lend_state(state.clone());
             s.call(&script, &[0x0B])?;
+            s.lend_state(state);
+            s.run(&script, 0)?;
         }
     }
     Ok(())

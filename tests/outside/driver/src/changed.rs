@@ -3,11 +3,17 @@
 use oracle::gen::{self, Rng};
 use oracle::opening::join;
 
+use crate::histories::with_runs;
 use crate::lent::{self, of_comment, put_word, word, MOST_WAITING, SCALARS, STATE};
 use crate::reference::Script;
 use crate::session::{Differs, Session};
 
-fn script(rng: &mut Rng) -> Script {
+/// Small trees that no rule fits, or nodes that have one.
+pub fn script(rng: &mut Rng) -> Script {
+    if rng.one_in(2) {
+        let case = gen::make("rules", rng.next(), 0).expect("a family");
+        return Script::new(case.source, case.tree);
+    }
     let trim_all = rng.one_in(4);
     let (source, records) = gen::small_tree(rng, trim_all);
     Script::new(source.into_bytes(), join(&records))
@@ -105,7 +111,7 @@ fn change_out(s: &mut Session, rng: &mut Rng) {
     s.lend_out(out);
 }
 
-/// Calls, with something changed before every second one.
+/// Calls and runs, with something changed before every second one.
 pub fn lent(s: &mut Session, rng: &mut Rng) -> Result<(), Differs> {
     let scripts = [script(rng), script(rng)];
     let mut at = 0;
@@ -114,8 +120,8 @@ pub fn lent(s: &mut Session, rng: &mut Rng) -> Result<(), Differs> {
     s.lend_room(room);
     s.lend_state(vec![0; STATE]);
     let mut good = s.state.clone();
-    let records = gen::history(rng, scripts[0].records().len(), 60, 20);
-    for record in records {
+    let records = gen::history(rng, scripts[0].records().len(), 50, 20);
+    for record in with_runs(rng, &scripts[0], records) {
         match rng.below(10) {
             0..=3 => change_state(s, rng, &scripts[at]),
             4 => change_out(s, rng),
@@ -125,7 +131,7 @@ pub fn lent(s: &mut Session, rng: &mut Rng) -> Result<(), Differs> {
             }
             _ => {}
         }
-        if s.call(&scripts[at], &record)?.answer == 0 {
+        if s.step(&scripts[at], &record)?.answer == 0 {
             good = s.state.clone();
         } else if rng.one_in(2) {
             s.lend_state(good.clone());

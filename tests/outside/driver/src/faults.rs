@@ -6,6 +6,7 @@ use std::sync::atomic::{AtomicUsize, Ordering};
 use oracle::docengine::Trim;
 
 use crate::exported::Library;
+use crate::faulty_runs::run;
 use crate::lent::{self, of_comment, put_word, word, STATE};
 use crate::reference::{self, By, Script, Want};
 
@@ -41,22 +42,34 @@ faults!(
     OpeningTouchesWhereItRefuses,
     OpeningLeavesTheLastByte,
     WritesBesideTheState,
-    WritesIntoTheSource
+    WritesIntoTheSource,
+    RunZeroesNothing,
+    RunZeroesFromTheLengthItReached,
+    RunZeroesOnlyWhatItWrote,
+    RunZeroesWithoutAShape,
+    RunWritesTheStateWhereItRefuses,
+    RunNamesItsNodeForTheRecordMet,
+    RunNamesTheLengthItBeganWith,
+    RunAsksForTheNodeBeforeTheFinish,
+    RunTakesTheNodeBehind,
+    RunSwapsPrefixAndSuffix,
+    RunLosesAComma,
+    RunSetsABlankLineForANewLine
 );
 
 static FAULT: AtomicUsize = AtomicUsize::new(0);
 
-fn fault() -> Fault {
+pub fn fault() -> Fault {
     ALL[FAULT.load(Ordering::Relaxed)]
 }
 
 /// The library with this fault.
 pub fn with(fault: Fault) -> Library {
     FAULT.store(fault as usize, Ordering::Relaxed);
-    Library { open, call }
+    Library { open, call, run }
 }
 
-unsafe fn bytes<'a>(at: *const u8, len: usize) -> &'a [u8] {
+pub unsafe fn bytes<'a>(at: *const u8, len: usize) -> &'a [u8] {
     match len {
         0 => &[],
         _ => slice::from_raw_parts(at, len),

@@ -1,29 +1,55 @@
-//! Histories from the oracle's families, replayed call by call.
+//! Histories from the oracle's families, replayed step by step: a step is a call
+//! record, or a run as the oracle's files have it.
 use oracle::alloc;
-use oracle::call::{script as steps_of, Step};
+use oracle::call::{run_step, Step};
 use oracle::case::{self, Case, ROOM};
-use oracle::docengine::{DocEngine, Trim};
 use oracle::engine::Engine;
 use oracle::gen::{self, Rng};
 use oracle::{compare, Diagnostics};
 
 use crate::lent::{self, STATE};
-use crate::reference::Script;
+use crate::reference::{self, Script};
+use crate::rules::{self, records_of};
 use crate::session::{Differs, Session};
 
-/// How much the calls need where there is room.
-pub fn needed(script: &Script, records: &[Vec<u8>]) -> usize {
-    let Some((text, tree)) = script.good() else {
-        return 0;
-    };
-    let mut engine = DocEngine::new(text, &tree.records, ROOM, Trim::Three);
-    for record in records {
-        let _ = engine.call(record);
+/// How much the steps need where there is room.
+pub fn needed(script: &Script, steps: &[Vec<u8>]) -> usize {
+    let mut state = vec![0; STATE];
+    for step in steps {
+        let want = reference::step(script, &state, ROOM, step);
+        state = want.state.unwrap_or(state);
     }
-    engine.output.len()
+    lent::word(&state, lent::LENGTH) as usize
 }
 
-/// Opens, and makes the calls, beside the Rust's own engine where both trim alike.
+/// A run on a node: mostly on one whose kind has a rule.
+pub fn any_run(rng: &mut Rng, script: &Script) -> Vec<u8> {
+    let records = script.records();
+    let with_rule: Vec<usize> = (0..records.len())
+        .filter(|i| rules::name(records[*i].kind).is_some())
+        .collect();
+    let node = match rng.below(8) {
+        0 => rng.pick(&[0, records.len(), 8_191, 8_192, u32::MAX as usize]),
+        1 => rng.below(records.len() + 2),
+        _ if with_rule.is_empty() => rng.below(records.len() + 1),
+        _ => rng.pick(&with_rule),
+    };
+    run_step(node as u32)
+}
+
+/// The same steps, and runs among them.
+pub fn with_runs(rng: &mut Rng, script: &Script, steps: Vec<Vec<u8>>) -> Vec<Vec<u8>> {
+    let mut all = vec![];
+    for step in steps {
+        if rng.one_in(3) {
+            all.push(any_run(rng, script));
+        }
+        all.push(step);
+    }
+    all
+}
+
+/// Opens, and makes the steps, beside the Rust's own engine where both trim alike.
 pub fn replay(
     s: &mut Session,
     rng: &mut Rng,
@@ -35,19 +61,31 @@ pub fn replay(
     s.lend_room(room);
     s.lend_state((0..STATE).map(|_| rng.below(256) as u8).collect());
     if !s.open(script)? {
-        // refused: every call is, too, whatever state is lent
+        // refused: every step is, too, whatever state is lent
         for record in records.iter().take(4) {
-            s.call(script, record)?;
+            s.step(script, record)?;
         }
+        s.run(script, 0)?;
         return Ok(());
     }
     if script.trims_alike() {
         return replay_beside_rust(s, script, records);
     }
     for record in records {
-        s.call(script, record)?;
+        s.step(script, record)?;
     }
     Ok(())
+}
+
+/// Is it a run on a kind whose rule the Rust has, and the library has not yet?
+fn comes_later(script: &Script, step: &Step) -> bool {
+    match step {
+        Step::Run(node) => script
+            .records()
+            .get(*node as usize)
+            .is_some_and(|r| rules::name(r.kind).is_none()),
+        _ => false,
+    }
 }
 
 fn replay_beside_rust(
@@ -59,8 +97,12 @@ fn replay_beside_rust(
     let (mut buffer, mut diagnostics) = (alloc::String::with_cap(s.out.len()), Diagnostics);
     let mut rust = Engine::new(text, tree, &mut buffer, &mut diagnostics);
     for record in records {
-        let want = s.call(script, record)?;
-        let answer = rust.call(record).map_or_else(|r| r.packed(), |()| 0);
+        let want = s.step(script, record)?;
+        let step = oracle::call::step(record);
+        if comes_later(script, &step) {
+            continue;
+        }
+        let answer = rust.step(step).map_or_else(|r| r.packed(), |()| 0);
         // The library gave what the reference did: so both are compared.
         assert_eq!(
             answer, want.answer,
@@ -82,15 +124,6 @@ fn replay_beside_rust(
     Ok(())
 }
 
-fn records_of(steps: &[u8]) -> Vec<Vec<u8>> {
-    let record = |(_, step)| match step {
-        Step::Call(record) => record.to_vec(),
-        Step::Run(node) => oracle::call::run_step(node),
-        Step::Layout => oracle::call::layout_step(),
-    };
-    steps_of(steps).into_iter().map(record).collect()
-}
-
 fn family(
     s: &mut Session,
     rng: &mut Rng,
@@ -99,7 +132,8 @@ fn family(
 ) -> Result<(), Differs> {
     let script = Script::new(case.source, case.tree);
     let room = match case.cap {
-        ROOM => needed(&script, &records) + rng.pick(&[0, 1, 8, 100]),
+        // a run that is refused late may have written more than all the others
+        ROOM => needed(&script, &records) + rng.pick(&[0, 1, 8, 100, 1_000, 5_000]),
         cap => cap,
     };
     replay(s, rng, &script, room, &records)
@@ -110,6 +144,18 @@ pub fn calls(s: &mut Session, rng: &mut Rng, name: &str, seed: u64, i: u64) -> R
     let case = gen::make(name, seed, i).expect("a family");
     let records = records_of(&case.steps);
     family(s, rng, case, records)
+}
+
+/// Runs on nodes of random items, patterns and paths, or of whole programs.
+pub fn runs(s: &mut Session, rng: &mut Rng, name: &str, seed: u64, i: u64) -> Result<(), Differs> {
+    let case = gen::make(name, seed, i).expect("a family");
+    let mut steps = records_of(&case.steps);
+    if name != "rules" {
+        // a program holds few nodes of the first rules among all others
+        let script = Script::new(case.source.clone(), case.tree.clone());
+        steps.extend((0..8).map(|_| any_run(rng, &script)));
+    }
+    family(s, rng, case, steps)
 }
 
 /// The calls that a layout or some runs make; where a tree isn't opened, any.
@@ -126,11 +172,16 @@ pub fn traces(
     if outcome.state.is_none() {
         records = gen::history(rng, 10, 4, 40);
     }
+    let own = records_of(&case.steps);
+    let script = Script::new(case.source.clone(), case.tree.clone());
+    family(s, rng, case, records)?;
     // the oracle's own steps are unknown records to a call
     if rng.one_in(20) {
-        records.extend(records_of(&case.steps));
+        for record in own {
+            s.call(&script, &record)?;
+        }
     }
-    family(s, rng, case, records)
+    Ok(())
 }
 
 /// A program of nearly 8,192 records: the calls at its head.
@@ -138,6 +189,8 @@ pub fn big(s: &mut Session, rng: &mut Rng, seed: u64, i: u64) -> Result<(), Diff
     let case = gen::make("big", seed, i).expect("a family");
     let mut records = records_of(&case::run(&case).trace);
     records.truncate(400);
+    let script = Script::new(case.source.clone(), case.tree.clone());
+    records.extend((0..100).map(|_| any_run(rng, &script)));
     family(s, rng, case, records)
 }
 
@@ -147,13 +200,15 @@ pub fn openings(s: &mut Session, rng: &mut Rng, i: u64) -> Result<(), Differs> {
     let script = Script::new(source, tree);
     let n = 1 + rng.below(6);
     let records = gen::history(rng, script.records().len(), n, 40);
+    let records = with_runs(rng, &script, records);
     let room = rng.below(60);
     replay(s, rng, &script, room, &records)
 }
 
-/// Buffers of exactly the size that some call of a history needs, or one byte less.
+/// Buffers of exactly the size that some step of a history needs, or one byte less.
 pub fn rooms(s: &mut Session, rng: &mut Rng, seed: u64, i: u64) -> Result<(), Differs> {
-    let case = gen::make("calls", seed ^ 0x5EED, i).expect("a family");
+    let name = ["calls", "rules"][i as usize % 2];
+    let case = gen::make(name, seed ^ 0x5EED, i).expect("a family");
     let records = records_of(&case.steps);
     let script = Script::new(case.source, case.tree);
     let some = &records[..rng.below(records.len() + 1)];

@@ -34,25 +34,35 @@ pub fn of_comment(k: usize, number: usize) -> usize {
 
 /// The one form in which a state is handed back.
 pub fn encode(state: &State) -> Vec<u8> {
-    let mut bytes: Vec<u8> = state.words(false).iter().flat_map(|w| w.to_le_bytes()).collect();
+    let mut bytes: Vec<u8> = state
+        .words(false)
+        .iter()
+        .flat_map(|w| w.to_le_bytes())
+        .collect();
     bytes.resize(STATE, 0);
     bytes
+}
+
+/// Has it the shape of a state: its length, its flags, a buffer that a word can
+/// measure? Where it has not, nothing in it can be trusted, not even a length.
+pub fn shaped(state: &[u8], out_len: usize) -> bool {
+    if state.len() != STATE || out_len > u32::MAX as usize {
+        return false;
+    }
+    let count = word(state, COUNT) as usize;
+    let mut flags = [USE_LINES, WS, FINISHED]
+        .into_iter()
+        .chain((0..count.min(MOST_WAITING)).map(|k| of_comment(k, 3)));
+    flags.all(|flag| word(state, flag) <= 1)
 }
 
 /// The lent state, or the refusal that it meets.
 pub fn checked(source: &str, state: &[u8], out_len: usize) -> Result<State, Refusal> {
     let no_engine = Refusal::new(5, 8_192);
-    if state.len() != STATE || out_len > u32::MAX as usize {
+    if !shaped(state, out_len) {
         return Err(no_engine);
     }
     let count = word(state, COUNT) as usize;
-    let flags = [USE_LINES, WS, FINISHED].into_iter();
-    let flags = flags.chain((0..count.min(MOST_WAITING)).map(|k| of_comment(k, 3)));
-    for flag in flags {
-        if word(state, flag) > 1 {
-            return Err(no_engine);
-        }
-    }
     let length = word(state, LENGTH);
     if length as usize > out_len {
         return Err(Refusal::new(4, length));

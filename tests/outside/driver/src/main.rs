@@ -5,11 +5,14 @@ mod bounds;
 mod changed;
 mod exported;
 mod faults;
+mod faulty_runs;
 mod histories;
 mod huge;
+mod large;
 mod lent;
 mod noise;
 mod reference;
+mod rules;
 mod sample;
 mod session;
 mod tally;
@@ -31,7 +34,7 @@ outside faults [--calls N] [--seed N]     each fault of a stand-in must be found
 outside sample FOLDER COUNT [--seed N]    histories with their answers, as files";
 
 /// Groups of histories; of a round of histories each gets so many.
-const GROUPS: [(&str, usize); 14] = [
+const GROUPS: [(&str, usize); 16] = [
     ("calls", 8),
     ("trimcalls", 2),
     ("layout", 4),
@@ -39,6 +42,8 @@ const GROUPS: [(&str, usize); 14] = [
     ("focus", 4),
     ("runs", 2),
     ("damaged", 6),
+    ("rules", 20),
+    ("nodes", 4),
     ("openings", 12),
     ("rooms", 2),
     ("queues", 3),
@@ -121,6 +126,11 @@ fn history(
         "calls" | "trimcalls" => histories::calls(&mut s, rng, group, options.seed, i),
         "layout" | "trim" | "focus" | "runs" | "damaged" => {
             histories::traces(&mut s, rng, group, options.seed, i)
+        }
+        "rules" => histories::runs(&mut s, rng, "rules", options.seed, i),
+        "nodes" => {
+            let family = ["runs", "damaged"][i as usize % 2];
+            histories::runs(&mut s, rng, family, options.seed, i)
         }
         "big" => histories::big(&mut s, rng, options.seed, i),
         "openings" => histories::openings(&mut s, rng, i),
@@ -216,7 +226,7 @@ fn compare(options: &Options) -> bool {
             .iter()
             .for_each(|d| println!("DIFFERS {d}"));
         println!(
-            "  {} calls, {} differ",
+            "  {} calls and runs, {} differ",
             tally.calls,
             tally.differences.len()
         );
@@ -235,9 +245,10 @@ fn compare(options: &Options) -> bool {
         .iter()
         .for_each(|what| println!("NEVER REACHED {what}"));
     println!(
-        "  {} openings and {} calls compared, {} of them in four threads at once, {} beside rune's output.rs; {} differ ({} s)",
+        "  {} openings, {} calls and {} runs compared, {} of these in four threads at once, {} beside rune's own two files; {} differ ({} s)",
         tally.opens,
-        tally.calls,
+        tally.calls - tally.runs,
+        tally.runs,
         tally.calls - alone,
         tally.with_rust,
         tally.differences.len(),

@@ -3,6 +3,8 @@
 use oracle::gen::{self, Rng};
 use oracle::opening::join;
 
+use crate::changed;
+use crate::histories::any_run;
 use crate::lent::{self, STATE};
 use crate::reference::Script;
 use crate::session::{Differs, Session};
@@ -72,9 +74,14 @@ fn record(rng: &mut Rng, records: usize) -> Vec<u8> {
 }
 
 pub fn noise(s: &mut Session, rng: &mut Rng) -> Result<(), Differs> {
-    let source = source(rng);
-    let tree = tree(rng, &source);
-    let script = Script::new(source, tree);
+    let script = match rng.one_in(4) {
+        true => changed::script(rng),
+        false => {
+            let source = source(rng);
+            let tree = tree(rng, &source);
+            Script::new(source, tree)
+        }
+    };
     s.lend(&script);
     for _ in 0..1 + rng.below(12) {
         let state = state(rng);
@@ -87,6 +94,10 @@ pub fn noise(s: &mut Session, rng: &mut Rng) -> Result<(), Differs> {
         for _ in 0..1 + rng.below(3) {
             let record = record(rng, script.records().len());
             s.call(&script, &record)?;
+            if rng.one_in(2) {
+                let run = any_run(rng, &script);
+                s.step(&script, &run)?;
+            }
         }
     }
     Ok(())

@@ -1,12 +1,15 @@
 //! What the exported functions must answer and leave: opening in two ways, the
-//! checks on what is lent, then the engine of document 01's words. A function of
-//! what is lent, and of nothing else.
+//! checks on what is lent, then the engine of document 01's words; a run is the
+//! calls that rune's format.rs makes. A function of what is lent, and of nothing
+//! else.
+use oracle::call::Step;
 use oracle::docengine::{DocEngine, Trim};
 use oracle::grammar::{Rec, Tree};
 use oracle::refusal::Refusal;
 use oracle::{opening, opening_again};
 
 use crate::lent::{self, STATE};
+use crate::rules;
 
 /// A source and a tree, and what opening says of them.
 pub struct Script {
@@ -72,6 +75,10 @@ pub struct Want {
     pub state: Option<Vec<u8>>,
     /// behind the former output
     pub written: Vec<u8>,
+    /// from where on the buffer is zero: of a refused run
+    pub zero_from: Option<usize>,
+    /// what a refused run had written, which nobody may see
+    pub hidden: Vec<u8>,
 }
 
 impl Want {
@@ -81,6 +88,19 @@ impl Want {
             by,
             state: None,
             written: vec![],
+            zero_from: None,
+            hidden: vec![],
+        }
+    }
+
+    fn done(state: Vec<u8>, written: Vec<u8>) -> Self {
+        Self {
+            answer: 0,
+            by: By::Call,
+            state: Some(state),
+            written,
+            zero_from: None,
+            hidden: vec![],
         }
     }
 }
@@ -89,12 +109,7 @@ pub fn open(script: &Script, state_len: usize) -> Want {
     match &script.opened {
         Err(r) => Want::refused(*r, By::Opening),
         Ok(_) if state_len != STATE => Want::refused(Refusal::new(5, 8_192), By::Lent),
-        Ok(_) => Want {
-            answer: 0,
-            by: By::Call,
-            state: Some(vec![0; STATE]),
-            written: vec![],
-        },
+        Ok(_) => Want::done(vec![0; STATE], vec![]),
     }
 }
 
@@ -115,11 +130,68 @@ pub fn call_by(trim: Trim, script: &Script, state: &[u8], out_len: usize, record
     engine.state = state;
     match engine.call(record) {
         Err(r) => Want::refused(r, By::Call),
-        Ok(()) => Want {
-            answer: 0,
-            by: By::Call,
-            state: Some(lent::encode(&engine.state)),
-            written: engine.output.into_bytes(),
+        Ok(()) => Want::done(lent::encode(&engine.state), engine.output.into_bytes()),
+    }
+}
+
+/// A step of the oracle's files: a run where the bytes are one, else a call.
+pub fn step(script: &Script, state: &[u8], out_len: usize, step: &[u8]) -> Want {
+    match oracle::call::step(step) {
+        Step::Run(node) => run(script, state, out_len, node),
+        _ => call(script, state, out_len, step),
+    }
+}
+
+pub fn run(script: &Script, state: &[u8], out_len: usize, node: u32) -> Want {
+    run_by(&|calls| calls, script, state, out_len, node)
+}
+
+/// How a fault changes the calls of a run.
+pub type Altered<'a> = &'a dyn Fn(Vec<Vec<u8>>) -> Vec<Vec<u8>>;
+
+/// With the calls changed: one of the faults.
+pub fn run_by(altered: Altered, script: &Script, state: &[u8], out_len: usize, node: u32) -> Want {
+    let mut want = laid(altered, script, state, out_len, node);
+    if want.answer != 0 && lent::shaped(state, out_len) {
+        want.zero_from = Some(lent::word(state, lent::LENGTH) as usize);
+    }
+    want
+}
+
+/// Opening, what is lent, 10, 11, 9, then the calls of the node's rule.
+fn laid(altered: Altered, script: &Script, state: &[u8], out_len: usize, node: u32) -> Want {
+    let Some((text, tree)) = script.good() else {
+        return Want::refused(*script.opened.as_ref().err().unwrap(), By::Opening);
+    };
+    let state = match lent::checked(text, state, out_len) {
+        Ok(state) => state,
+        Err(r) => return Want::refused(r, By::Lent),
+    };
+    let refused = |no, place| Want::refused(Refusal::new(no, place), By::Call);
+    if state.finished {
+        return refused(10, state.len as u32);
+    }
+    match tree.records.get(node as usize) {
+        None => return refused(11, node),
+        Some(r) if rules::name(r.kind).is_none() => return refused(9, node),
+        _ => {}
+    }
+    let plan = rules::plan(text, tree, &state, node);
+    let mut engine = DocEngine::new(text, &tree.records, out_len, Trim::Three);
+    engine.state = state;
+    for call in altered(plan.calls) {
+        if let Err(r) = engine.call(&call) {
+            return Want {
+                hidden: engine.output.into_bytes(),
+                ..Want::refused(r, By::Call)
+            };
+        }
+    }
+    match plan.refusal {
+        Some(r) => Want {
+            hidden: engine.output.into_bytes(),
+            ..Want::refused(r, By::Call)
         },
+        None => Want::done(lent::encode(&engine.state), engine.output.into_bytes()),
     }
 }

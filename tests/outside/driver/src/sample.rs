@@ -3,15 +3,17 @@
 use std::fs;
 use std::path::Path;
 
-use oracle::call::{script as steps_of, Step};
+use oracle::call::run_step;
 use oracle::compare;
 use oracle::gen::{self, Rng};
 
 use crate::histories::needed;
+use crate::large;
 use crate::lent::{self, STATE};
 use crate::reference::{self, Script};
+use crate::rules::records_of;
 
-/// Calls of a history.
+/// Steps of a history.
 const LONGEST: usize = 60;
 
 fn put_u32(file: &mut Vec<u8>, n: usize) {
@@ -29,7 +31,32 @@ fn put_bytes(file: &mut Vec<u8>, bytes: &[u8]) {
 pub fn write(folder: &Path, seed: u64, count: u64) {
     let rng = &mut Rng::new(seed);
     fs::write(folder.join("fresh-trees.bin"), trees(rng, count)).expect("a file can be written");
-    fs::write(folder.join("fresh-calls.bin"), calls(seed, count)).expect("a file can be written");
+    for (name, families) in [
+        (
+            "fresh-calls.bin",
+            &["trimcalls", "calls", "calls", "calls"][..],
+        ),
+        ("fresh-runs.bin", &["rules", "rules", "rules", "runs"]),
+    ] {
+        let file = histories(families, seed, count);
+        fs::write(folder.join(name), file).expect("a file can be written");
+    }
+    fs::write(folder.join("large-runs.bin"), large_runs()).expect("a file can be written");
+}
+
+/// Runs on the largest and deepest nodes: they take the most stack.
+fn large_runs() -> Vec<u8> {
+    let scripts: Vec<Script> = large::all()
+        .into_iter()
+        .filter(|s| s.good().is_some())
+        .collect();
+    let mut file = vec![];
+    put_u32(&mut file, scripts.len());
+    for script in scripts {
+        let steps = [0, 1, 2].map(run_step);
+        put_history(&mut file, &script, 20_000, &steps);
+    }
+    file
 }
 
 fn trees(rng: &mut Rng, count: u64) -> Vec<u8> {
@@ -45,41 +72,41 @@ fn trees(rng: &mut Rng, count: u64) -> Vec<u8> {
     file
 }
 
-fn calls(seed: u64, count: u64) -> Vec<u8> {
+/// Histories of these families in turn.
+fn histories(families: &[&str], seed: u64, count: u64) -> Vec<u8> {
     let mut file = vec![];
     put_u32(&mut file, count as usize);
     for i in 0..count {
-        let family = if i % 4 == 0 { "trimcalls" } else { "calls" };
+        let family = families[i as usize % families.len()];
         let case = gen::make(family, seed, i).expect("a family");
         let script = Script::new(case.source, case.tree);
-        let record = |(_, step)| match step {
-            Step::Call(record) => record.to_vec(),
-            _ => unreachable!("these families have calls only"),
-        };
-        // each call is recorded with the whole output, so long histories are cut
-        let steps = steps_of(&case.steps).into_iter().take(LONGEST);
-        let records: Vec<Vec<u8>> = steps.map(record).collect();
-        let room = case.cap.min(needed(&script, &records) + 8);
-        put_history(&mut file, &script, room, &records);
+        // each step is recorded with the whole output, so long histories are cut
+        let mut steps = records_of(&case.steps);
+        steps.truncate(LONGEST);
+        let room = case.cap.min(needed(&script, &steps) + 8);
+        put_history(&mut file, &script, room, &steps);
     }
     file
 }
 
-fn put_history(file: &mut Vec<u8>, script: &Script, room: usize, records: &[Vec<u8>]) {
+fn put_history(file: &mut Vec<u8>, script: &Script, room: usize, steps: &[Vec<u8>]) {
     put_bytes(file, &script.source);
     put_bytes(file, &script.tree);
     put_u32(file, room);
-    put_u32(file, records.len());
-    let (mut state, mut output) = (vec![0; STATE], vec![]);
-    for record in records {
-        let want = reference::call(script, &state, room, record);
+    put_u32(file, steps.len());
+    let (mut state, mut output, mut zeroed) = (vec![0; STATE], vec![], false);
+    for step in steps {
+        let want = reference::step(script, &state, room, step);
         output.extend_from_slice(&want.written);
+        zeroed |= want.zero_from.is_some();
         state = want.state.unwrap_or(state);
-        put_u32(file, record.len());
-        file.extend_from_slice(record);
+        put_u32(file, step.len());
+        file.extend_from_slice(step);
         file.extend(want.answer.to_le_bytes());
         let words = lent::SCALARS + lent::COMMENT * lent::word(&state, lent::COUNT) as usize;
-        file.extend_from_slice(&state[..words * 4]);
+        let mut recorded = state[..words * 4].to_vec();
+        lent::put_word(&mut recorded, lent::ZERO, zeroed as u32);
+        file.extend_from_slice(&recorded);
         file.extend_from_slice(&output);
     }
 }

@@ -3,6 +3,8 @@
 use std::fs;
 use std::path::PathBuf;
 
+use oracle::call::Step;
+
 use crate::area::{Area, Side};
 use crate::exported::Library;
 use crate::lent;
@@ -28,6 +30,14 @@ impl Desk {
             record: Area::new(1_024),
         }
     }
+}
+
+/// What was asked of the library.
+#[derive(Clone, Copy)]
+enum Asked<'a> {
+    Open,
+    Call(&'a [u8]),
+    Run(u32),
 }
 
 /// A history was cut off: the library differs, and the tally knows.
@@ -127,8 +137,39 @@ impl<'a> Session<'a> {
             )
         };
         self.tally.opened(&want);
-        self.compare(script, None, got, &want)?;
+        self.compare(script, Asked::Open, got, &want)?;
         Ok(want.answer == 0)
+    }
+
+    /// A step of the oracle's files: a run where the bytes are one, else a call.
+    pub fn step(&mut self, script: &Script, step: &[u8]) -> Result<Want, Differs> {
+        match oracle::call::step(step) {
+            Step::Run(node) => self.run(script, node),
+            _ => self.call(script, step),
+        }
+    }
+
+    pub fn run(&mut self, script: &Script, node: u32) -> Result<Want, Differs> {
+        let want = reference::run(script, &self.state, self.out.len(), node);
+        let desk = &mut *self.desk;
+        let got = unsafe {
+            (self.library.run)(
+                Self::pointer(&mut desk.source, self.nulls),
+                script.source.len(),
+                Self::pointer(&mut desk.tree, self.nulls),
+                script.tree.len(),
+                Self::pointer(&mut desk.state, self.nulls),
+                self.state.len(),
+                Self::pointer(&mut desk.out, self.nulls),
+                self.out.len(),
+                node,
+            )
+        };
+        self.calls += 1;
+        let kind = script.records().get(node as usize).map(|r| r.kind);
+        self.tally.ran(kind, &want);
+        self.compare(script, Asked::Run(node), got, &want)?;
+        Ok(want)
     }
 
     pub fn call(&mut self, script: &Script, record: &[u8]) -> Result<Want, Differs> {
@@ -155,7 +196,7 @@ impl<'a> Session<'a> {
             _ => 0,
         };
         self.tally.called(record, waited, &want);
-        self.compare(script, Some(record), got, &want)?;
+        self.compare(script, Asked::Call(record), got, &want)?;
         Ok(want)
     }
 
@@ -164,11 +205,12 @@ impl<'a> Session<'a> {
     fn compare(
         &mut self,
         script: &Script,
-        record: Option<&[u8]>,
+        asked: Asked,
         got: u64,
         want: &Want,
     ) -> Result<(), Differs> {
         let desk = &*self.desk;
+        let record_is = !matches!(asked, Asked::Call(r) if desk.record.bytes() != r);
         let state = want.state.as_ref().unwrap_or(&self.state);
         let wrong = [
             ("answer", got != want.answer),
@@ -176,7 +218,7 @@ impl<'a> Session<'a> {
             ("output", !self.output_is(want)),
             ("source", desk.source.bytes() != script.source),
             ("tree", desk.tree.bytes() != script.tree),
-            ("record", record.is_some_and(|r| desk.record.bytes() != r)),
+            ("record", !record_is),
             ("strip beside the source", !desk.source.strip_is_whole()),
             ("strip beside the tree", !desk.tree.strip_is_whole()),
             ("strip beside the state", !desk.state.strip_is_whole()),
@@ -185,13 +227,16 @@ impl<'a> Session<'a> {
         ];
         if wrong.iter().any(|w| w.1) {
             let wrong: Vec<&str> = wrong.iter().filter(|w| w.1).map(|w| w.0).collect();
-            self.report(&wrong, script, record, got, want);
+            self.report(&wrong, script, asked, got, want);
             return Err(Differs);
         }
         if let Some(state) = &want.state {
             let from = self.written_from();
             self.out[from..from + want.written.len()].copy_from_slice(&want.written);
             self.state.copy_from_slice(state);
+        }
+        if let Some(from) = want.zero_from {
+            self.out.iter_mut().skip(from).for_each(|b| *b = 0);
         }
         Ok(())
     }
@@ -205,6 +250,10 @@ impl<'a> Session<'a> {
     /// Is the lent buffer what it was, with what is wanted written into it?
     fn output_is(&self, want: &Want) -> bool {
         let now = self.desk.out.bytes();
+        if let Some(from) = want.zero_from {
+            let from = from.min(now.len());
+            return now[..from] == self.out[..from] && now[from..].iter().all(|b| *b == 0);
+        }
         if want.written.is_empty() {
             return now == self.out;
         }
@@ -217,17 +266,13 @@ impl<'a> Session<'a> {
             && now[back..] == self.out[back..]
     }
 
-    fn report(
-        &mut self,
-        wrong: &[&str],
-        script: &Script,
-        record: Option<&[u8]>,
-        got: u64,
-        want: &Want,
-    ) {
-        let call = record.map_or("open".into(), |r| {
-            format!("call {} {r:02x?}", self.calls - 1)
-        });
+    fn report(&mut self, wrong: &[&str], script: &Script, asked: Asked, got: u64, want: &Want) {
+        let number = self.calls.saturating_sub(1);
+        let call = match asked {
+            Asked::Open => "open".into(),
+            Asked::Call(record) => format!("call {number} {record:02x?}"),
+            Asked::Run(node) => format!("call {number}, a run on node {node}"),
+        };
         self.tally.differences.push(format!(
             "{} {}: {call}: {} differs; answer {} at {}, wanted {} at {}",
             self.group,
@@ -239,12 +284,12 @@ impl<'a> Session<'a> {
             want.answer as u32,
         ));
         if self.save.is_some() {
-            self.save_case(script, record);
+            self.save_case(script, asked);
         }
     }
 
     /// What was lent, as files.
-    fn save_case(&self, script: &Script, record: Option<&[u8]>) {
+    fn save_case(&self, script: &Script, asked: Asked) {
         let folder = self
             .save
             .expect("a folder")
@@ -257,7 +302,14 @@ impl<'a> Session<'a> {
         file("tree", &script.tree);
         file("state", &self.state);
         file("out", &self.out);
-        file("record", record.unwrap_or(&[]));
+        file(
+            "record",
+            &match asked {
+                Asked::Open => vec![],
+                Asked::Call(record) => record.to_vec(),
+                Asked::Run(node) => oracle::call::run_step(node),
+            },
+        );
     }
 
     /// The group's line in the tally.

@@ -5,6 +5,7 @@ use oracle::call::Call;
 
 use crate::lent::{self, STATE};
 use crate::reference::{By, Want};
+use crate::rules;
 
 const LITERALS: [&str; 8] = [
     "lit {}", "lit ||", "lit ()", "lit {", "lit }", "lit ,", "lit ;", "lit :",
@@ -40,6 +41,28 @@ const REFUSALS: [&str; 13] = [
     "call 1", "call 2", "call 3", "call 7", "lent 4", "lent 5", "lent 6", "call 4", "call 5",
     "call 6", "call 10", "call 11", "call 12",
 ];
+/// Of runs, whatever their node.
+const RUNS: [&str; 15] = [
+    "run done",
+    "run 1",
+    "run 2",
+    "run 3",
+    "run 7",
+    "run lent 4",
+    "run lent 5",
+    "run lent 6",
+    "run 4",
+    "run 5",
+    "run 6",
+    "run 8",
+    "run 9",
+    "run 10",
+    "run 11",
+];
+/// Answers of the table of runs.
+const ANSWERS: [u64; 8] = [0, 4, 5, 6, 8, 9, 10, 11];
+const WITHOUT: &str = "a kind without a rule";
+const MISSING: &str = "no such node";
 const QUEUES: [&str; 5] = ["0 wait", "1 waits", "255 wait", "256 wait", "257th refused"];
 
 /// Everything that a run must reach.
@@ -49,17 +72,25 @@ fn required() -> impl Iterator<Item = &'static str> {
         .chain(LITERALS)
         .chain(HINTS)
         .chain(FLUSHES);
-    calls.chain(OPENINGS).chain(REFUSALS).chain(QUEUES)
+    calls
+        .chain(OPENINGS)
+        .chain(REFUSALS)
+        .chain(QUEUES)
+        .chain(RUNS)
 }
 
 #[derive(Default)]
 pub struct Tally {
     pub opens: u64,
     pub calls: u64,
-    /// of these calls, compared with rune's own output.rs too
+    /// of these calls, runs
+    pub runs: u64,
+    /// of all of them, compared with rune's own output.rs too
     pub with_rust: u64,
     groups: BTreeMap<&'static str, (u64, u64)>,
     reached: BTreeMap<&'static str, u64>,
+    /// runs over a good script, by the node's kind and the answer's number
+    kinds: BTreeMap<(&'static str, u64), u64>,
     pub differences: Vec<String>,
 }
 
@@ -113,9 +144,31 @@ impl Tally {
         }
     }
 
+    /// A run on a node of this kind, if there is one.
+    pub fn ran(&mut self, kind: Option<u8>, want: &Want) {
+        self.calls += 1;
+        self.runs += 1;
+        let number = want.answer >> 32;
+        let lent = if want.by == By::Lent { "lent " } else { "" };
+        let reached = match number {
+            0 => "run done".into(),
+            _ => format!("run {lent}{number}"),
+        };
+        let reached = RUNS.into_iter().find(|r| *r == reached);
+        self.reach(reached.expect("an answer of the list"));
+        if want.by == By::Call {
+            let name = kind.map_or(MISSING, |k| rules::name(k).unwrap_or(WITHOUT));
+            *self.kinds.entry((name, number)).or_default() += 1;
+        }
+    }
+
     pub fn add(&mut self, other: Tally) {
         self.opens += other.opens;
         self.calls += other.calls;
+        self.runs += other.runs;
+        for (kind, n) in other.kinds {
+            *self.kinds.entry(kind).or_default() += n;
+        }
         self.with_rust += other.with_rust;
         for (group, (histories, made)) in other.groups {
             let sum = self.groups.entry(group).or_default();
@@ -127,14 +180,36 @@ impl Tally {
         self.differences.extend(other.differences);
     }
 
-    pub fn never_reached(&self) -> Vec<&'static str> {
-        required()
-            .filter(|w| !self.reached.contains_key(w))
+    /// What a run of the driver had to reach and did not; every rule is to be done,
+    /// and refused by the room and by itself.
+    pub fn never_reached(&self) -> Vec<String> {
+        let missed = required().filter(|w| !self.reached.contains_key(w));
+        let rules = rules::KINDS
+            .iter()
+            .flat_map(|k| [0, 4, 8].map(|n| (k.1, n)));
+        let rules = rules.filter(|rule| !self.kinds.contains_key(rule));
+        missed
+            .map(String::from)
+            .chain(rules.map(|(name, n)| format!("a run on {name} with answer {n}")))
             .collect()
     }
 
+    fn show_runs(&self) {
+        let numbers = ANSWERS.map(|n| format!("{n:8}"));
+        println!("  runs over good scripts and states, done (0) and refused:");
+        println!("  {:22}{}", "", numbers.concat());
+        let names = rules::KINDS.iter().map(|k| k.1);
+        for name in names.chain([WITHOUT, MISSING]) {
+            let counts = ANSWERS.map(|n| {
+                let count = self.kinds.get(&(name, n)).unwrap_or(&0);
+                format!("{count:8}")
+            });
+            println!("  {name:22}{}", counts.concat());
+        }
+    }
+
     pub fn show(&self) {
-        println!("  group            histories      calls");
+        println!("  group            histories      steps");
         for (group, (histories, made)) in &self.groups {
             println!("  {group:14} {histories:11} {made:10}");
         }
@@ -147,6 +222,7 @@ impl Tally {
                 line.iter().map(part).collect::<Vec<_>>().join(" · ")
             );
         }
+        self.show_runs();
     }
 }
 

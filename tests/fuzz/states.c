@@ -1,0 +1,75 @@
+/* What the checks share. */
+#include <stdarg.h>
+#include <stdio.h>
+#include <stdlib.h>
+#include <string.h>
+
+#include "refusals.h"
+#include "savetnuok.h"
+#include "states.h"
+
+void broken(const char *what, ...) {
+    va_list rest;
+    va_start(rest, what);
+    fputs("BROKEN: ", stderr);
+    vfprintf(stderr, what, rest);
+    fputs("\n", stderr);
+    va_end(rest);
+    abort();
+}
+
+uint32_t word(const uint8_t *state, size_t at) { return savetnuok_word(state + at); }
+
+const uint8_t *comment(const uint8_t *state, size_t k) {
+    return state + SAVETNUOK_STATE_COMMENTS + k * SAVETNUOK_COMMENT_SIZE;
+}
+
+void state_is_canonical(struct bytes source, const uint8_t *state, size_t out_len) {
+    HOLDS(word(state, SAVETNUOK_STATE_LENGTH) <= out_len, "the output length passes the buffer");
+    HOLDS(word(state, SAVETNUOK_STATE_USE_LINES) <= 1, "use_lines is no flag");
+    HOLDS(word(state, SAVETNUOK_STATE_WS) <= 1, "ws is no flag");
+    HOLDS(word(state, SAVETNUOK_STATE_INDENT) <= SAVETNUOK_INDENT_MOST, "indent is over 64");
+    HOLDS(word(state, SAVETNUOK_STATE_FINISHED) <= 1, "finished is no flag");
+    HOLDS(word(state, SAVETNUOK_STATE_ZERO) == 0, "the last word is not 0");
+    uint32_t waiting = word(state, SAVETNUOK_STATE_WAITING);
+    HOLDS(waiting <= SAVETNUOK_WAITING_MOST, "%u wait", waiting);
+    HOLDS(waiting == 0 || word(state, SAVETNUOK_STATE_FINISHED) == 0, "a comment waits after the finish");
+    for (uint32_t k = 0; k < waiting; k++) {
+        const uint8_t *c = comment(state, k);
+        uint32_t start = word(c, SAVETNUOK_COMMENT_START), end = word(c, SAVETNUOK_COMMENT_END);
+        HOLDS(start <= end && end <= source.len, "comment %u lies outside the source", k);
+        HOLDS(on_boundary(source, start) && on_boundary(source, end), "comment %u cuts a character", k);
+        HOLDS(word(c, SAVETNUOK_COMMENT_LINE) <= 1, "comment %u has no flag", k);
+    }
+    for (const uint8_t *free = comment(state, waiting); free < state + SAVETNUOK_STATE_SIZE; free++)
+        HOLDS(*free == 0, "a free comment is not 0");
+}
+
+size_t record_at(struct bytes tree, uint32_t k) {
+    size_t at = 0;
+    for (; k > 0; k--)
+        at += tree.at[at] < 0x80 ? 9 : 13;
+    return at;
+}
+
+uint32_t below(struct bytes tree, size_t at) { return tree.at[at] < 0x80 ? 0 : savetnuok_word(tree.at + at + 9); }
+
+struct bytes comment_text(struct bytes source, const uint8_t *c) {
+    uint32_t start = word(c, SAVETNUOK_COMMENT_START), end = word(c, SAVETNUOK_COMMENT_END);
+    if (word(c, SAVETNUOK_COMMENT_LINE) == 1)
+        while (end > start && strchr(" \t\r", source.at[end - 1]) != NULL && source.at[end - 1] != '\0')
+            end--;
+    return (struct bytes){source.at + start, end - start};
+}
+
+uint8_t *copy_of(struct bytes b) {
+    uint8_t *copy = malloc(b.len + 1);
+    HOLDS(copy != NULL, "no memory");
+    if (b.len > 0)
+        memcpy(copy, b.at, b.len);
+    return copy;
+}
+
+int same(struct bytes b, const uint8_t *copy, size_t from, size_t to) {
+    return from >= to || memcmp(b.at + from, copy + from, to - from) == 0;
+}

@@ -1,0 +1,70 @@
+//! The rules that a run may take, and the calls that rune's format.rs makes for a
+//! node: what the engine of document 01's words is then given.
+use oracle::alloc;
+use oracle::call::{script as steps_of, Step};
+use oracle::engine::Engine;
+use oracle::grammar::Tree;
+use oracle::refusal::Refusal;
+use oracle::state::State;
+use oracle::Diagnostics;
+
+/// The kinds that have a rule, as the header lists them. The oracle has more: a run
+/// on one of those is refusal 9 here, as on any other kind.
+pub const KINDS: [(u8, &str); 15] = [
+    (0x98, "item_struct"),
+    (0x99, "item_enum"),
+    (0x9B, "item_use"),
+    (0xA0, "item_use_path"),
+    (0xA1, "item_use_group"),
+    (0xA2, "variant"),
+    (0xA3, "struct_body"),
+    (0xA4, "tuple_body"),
+    (0xA7, "fn_args"),
+    (0xB0, "path"),
+    (0xB1, "path_generics"),
+    (0xB2, "pat"),
+    (0xB3, "pat_array"),
+    (0xB4, "pat_tuple"),
+    (0xB5, "pat_object"),
+];
+
+pub fn name(kind: u8) -> Option<&'static str> {
+    KINDS.iter().find(|k| k.0 == kind).map(|k| k.1)
+}
+
+/// The calls of a run, and the refusal that ends it where one does. A call that the
+/// queue or the indent refuses stands last.
+pub struct Plan {
+    pub calls: Vec<Vec<u8>>,
+    pub refusal: Option<Refusal>,
+}
+
+/// What the Rust does where there is room for all. Of the output the engine asks
+/// only whether it is empty.
+pub fn plan(text: &str, tree: &Tree, state: &State, node: u32) -> Plan {
+    let (mut buffer, mut diagnostics) = (alloc::String::with_cap(usize::MAX), Diagnostics);
+    let len = state.len.min(1);
+    buffer.text = "x".repeat(len);
+    let mut rust = Engine::new(text, tree, &mut buffer, &mut diagnostics);
+    rust.fmt.restore(&State {
+        len,
+        ..state.clone()
+    });
+    rust.fmt.trace = Some(vec![]);
+    let refusal = rust.step(Step::Run(node)).err();
+    let trace = rust.fmt.trace.take().expect("a trace");
+    Plan {
+        calls: records_of(&trace),
+        refusal,
+    }
+}
+
+/// The steps of a case, each by itself.
+pub fn records_of(steps: &[u8]) -> Vec<Vec<u8>> {
+    let record = |(_, step)| match step {
+        Step::Call(record) => record.to_vec(),
+        Step::Run(node) => oracle::call::run_step(node),
+        Step::Layout => oracle::call::layout_step(),
+    };
+    steps_of(steps).into_iter().map(record).collect()
+}
