@@ -51,15 +51,6 @@ module _ (a b : ℕ → Bool) (s : Stream) {t : Bool} (e : t ≡ nextIs a s) whe
       go [] w g = g
       go (k ∷ ks) w g = rw w g
 
--- ---- by what is next
-
-module _ {x : Script} {r r′ : Result} {s s′ : Stream} (want : ℕ → Bool) (f g : Stream → Flow Stream) {t : Bool} (e : t ≡ nextIs want s) where
-  pub next-yes : t ≡ true → Flowed x f s r r′ s′ → Flowed x (λ s. cond (nextIs want s) (f s) (g s)) s r r′ s′
-  next-yes h y = record { ran = rw (← e, h) (y .ran); at = rw (← e, h) (y .at) }
-
-  pub next-no : t ≡ false → Flowed x g s r r′ s′ → Flowed x (λ s. cond (nextIs want s) (f s) (g s)) s r r′ s′
-  next-no h y = record { ran = rw (← e, h) (y .ran); at = rw (← e, h) (y .at) }
-
 -- nothing is done
 pub stands : {S : Type 0} {x : Script} {r : Result} {s : S} → Flowed x (flow nothing) s r r s
 stands = record { ran = chain.still; at = refl }
@@ -160,14 +151,7 @@ pub tuple-of : {x : Script} {r r′ : Result} {s s′ : Stream} (rs : List Recor
 unfolding patTuple
 tuple-of rs pat e y = record { ran = rw (← e) (y .ran); at = rw (← e) (y .at) }
 
--- ---- by kind, and by the depth that is left
-
-module _ {x : Script} {r r′ : Result} (p q : Plan) {t b : Bool} (e : t ≡ b) where
-  pub kind-yes : t ≡ true → Ran x p r r′ → Ran x (cond b p q) r r′
-  kind-yes h a = rw (← e, h) a
-
-  pub kind-no : t ≡ false → Ran x q r r′ → Ran x (cond b p q) r r′
-  kind-no h a = rw (← e, h) a
+-- ---- the depth that is left
 
 pub too-deep : {x : Script} (rs : List Record) (d : ℕ) (k : RecordNo) {run run′ : Run} (q b : List ℕ) → d ≡ 0 → Sticks (refuse (TreeDeep k)) run run′ → Ran x (pat rs d k) (resultOf run q b) (resultOf run′ q b)
 unfolding pat

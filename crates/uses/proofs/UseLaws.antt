@@ -19,7 +19,7 @@ use Rattle.steps.specs.declared.items.Few.the-variants.{Zero, One, Many}
 use Rattle.steps.specs.Stream.{Stream, nextIn, nextIs, takeIn, takeIf, takeAny}
 use Rattle.steps.specs.Flow.{_▸_, plain, write, spaced, pump, expect, eat, is, Flowed}
 use Rattle.steps.specs.Items.{more, list}
-use Rattle.uses.specs.Use.{usePart, asName, usePathRule, howMany, braced, groupRule, usePath, useGroup}
+use Rattle.uses.specs.Use.{asName, usePathRule, howMany, braced, groupRule, usePath, useGroup}
 use Rattle.steps.proofs.LoopLaws.{Falls}
 use Rattle.steps.proofs.ItemLaws.{pump-takes}
 
@@ -90,15 +90,6 @@ module _ {x : Script} {r : Result} (rs : List Record) (s : Stream) {t : Bool} (e
 
 pub parts-fall : (rs : List Record) (rule : RecordNo → Plan) → Falls (λ (s : Stream). s) (λ (k : ℕ). not (is rs Kind.As k)) (pump rule)
 parts-fall rs rule = record { less = pump-takes (λ (k : ℕ). not (is rs Kind.As k)) rule .less }
-
-module _ {x : Script} {r r′ : Result} (rs : List Record) (group : RecordNo → Plan) (k : RecordNo) {t : Bool} (e : t ≡ is rs Kind.ItemUseGroup (k .0)) where
-  pub part-group : t ≡ true → Ran x (group k) r r′ → Ran x (usePart rs group k) r r′
-  unfolding usePart
-  part-group h g = rw (← e, h) g
-
-  pub part-whole : t ≡ false → Ran x (write k) r r′ → Ran x (usePart rs group k) r r′
-  unfolding usePart
-  part-whole h g = rw (← e, h) g
 
 pub grouped : {x : Script} {r r′ : Result} {s s′ : Stream} (rs : List Record) (path : RecordNo → Plan) {few : Few} → few ≡ howMany (is rs Kind.ItemUsePath) (s .left)
     → Flowed x (expect rs Kind.OpenBrace (braced few) ▸ list rs (is rs Kind.ItemUsePath) path ▸ expect rs Kind.CloseBrace (braced few)) s r r′ s′ → Flowed x (groupRule rs path) s r r′ s′

@@ -7,7 +7,8 @@ use Rattle.meaning.specs.declared.call.Call.the-variants.{Ws}
 use Rattle.kinds.specs.declared.Kind.{Kind}
 use Rattle.paths.specs.Path.{path}
 use Rattle.patterns.specs.Pattern.{objectName}
-use Rattle.patterns.proofs.PatLaws.{next-yes, next-no}
+use Rattle.steps.specs.Stream.{nextIs}
+use Rattle.steps.proofs.RuleLaws.{where-so, where-not}
 use borrow.Author.Needs.{needs}
 use Rattle.patterns.proofs.pat_parts.object_name.Statement.{statement}
 use Rattle.patterns.proofs.pat_parts.object_name.Tie as tie
@@ -15,12 +16,12 @@ use Rattle.patterns.proofs.pat_parts.object_name.Tie as tie
 returns : tie.Need-returns
 unfolding objectName byteOf factsOf
 returns c = let rs = treeOf (c .before .before .before .before .before .before .before .before .before .before .args .table .now) in
-    next-yes (is rs Kind.AnonymousObjectKey) (expect rs Kind.AnonymousObjectKey write) (expect rs Kind.Path (path rs 64) ▸ call Ws) (c .before .before .before .before .before .before .next-is .ensures) (c .before .before .before .before .before .if1 .taken) (c .before .before .token .ensures)
+    where-so (nextIs (is rs Kind.AnonymousObjectKey)) (expect rs Kind.AnonymousObjectKey write) (expect rs Kind.Path (path rs 64) ▸ call Ws) _ (c .before .before .before .before .before .before .next-is .ensures) (c .before .before .before .before .before .if1 .taken) (c .before .before .token .ensures)
 
 returns-2 : tie.Need-returns-2
 unfolding objectName byteOf factsOf
 returns-2 c = let rs = treeOf (c .before .before .before .before .before .before .before .before .before .before .before .before .before .before .before .before .args .table .now) in
-    next-no (is rs Kind.AnonymousObjectKey) (expect rs Kind.AnonymousObjectKey write) (expect rs Kind.Path (path rs 64) ▸ call Ws) (c .before .before .before .before .before .before .before .before .before .before .before .before .next-is .ensures) (c .before .before .before .before .before .before .before .before .before .before .before .if1 .left) (c .before .before .before .before .before .before .before .before .next-path .ensures ▹ steady (c .before .before .ws .ensures))
+    where-not (nextIs (is rs Kind.AnonymousObjectKey)) (expect rs Kind.AnonymousObjectKey write) (expect rs Kind.Path (path rs 64) ▸ call Ws) _ (c .before .before .before .before .before .before .before .before .before .before .before .before .next-is .ensures) (c .before .before .before .before .before .before .before .before .before .before .before .if1 .left) (c .before .before .before .before .before .before .before .before .next-path .ensures ▹ steady (c .before .before .ws .ensures))
 
 pub object-name-spec : {M : Type 1} → statement M
 object-name-spec =

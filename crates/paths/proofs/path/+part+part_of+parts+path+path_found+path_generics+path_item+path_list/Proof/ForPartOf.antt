@@ -1,9 +1,8 @@
 -- What `part-of` needs.
 use borrow.Author.Needs.{needs}
-use Rattle.tree.specs.Table.{treeOf}
 use Rattle.kinds.specs.Facts.{byteOf, factsOf}
-use Rattle.paths.specs.Path.{path}
-use Rattle.paths.proofs.PathLaws.{part-generics, part-whole}
+use Rattle.steps.proofs.RuleLaws.{if-so, if-not}
+use Rattle.paths.specs.Path.{pathPart}
 use Prim.Native.Nat.{ℕ}
 use Rattle.steps.proofs.stream.is_kind.Reads as is-kind-reads
 use Rattle.paths.proofs.path.part_of.Reads as part-of
@@ -17,12 +16,12 @@ module _ (t : ℕ) where
   claims = (is-kind-reads.Asked, is-kind-reads.Learnt, path-generics-below t, path-generics.Post, write-owned-reads.Asked, write-owned-reads.Learnt)
 
   returns : lts.Need-returns claims (part-of-at t) part-of.Post
-  unfolding byteOf factsOf
-  returns c = part-generics (treeOf (c .before .before .before .before .before .before .before .before .before .before .args .table .now)) (c .before .before .before .before .before .before .before .before .before .before .args .k) _ (c .before .before .before .before .before .before .is-kind .ensures) (c .before .before .before .before .before .if1 .taken) (c .before .before .path-generics .ensures)
+  unfolding pathPart byteOf factsOf
+  returns c = if-so _ _ (c .before .before .before .before .before .before .is-kind .ensures) (c .before .before .before .before .before .if1 .taken) (c .before .before .path-generics .ensures)
 
   returns-2 : lts.Need-returns-2 claims (part-of-at t) part-of.Post
-  unfolding byteOf factsOf
-  returns-2 c = part-whole (treeOf (c .before .before .before .before .before .before .before .before .before .before .args .table .now)) (c .before .before .before .before .before .before .before .before .before .before .args .k) _ (c .before .before .before .before .before .before .is-kind .ensures) (c .before .before .before .before .before .if1 .left) (c .before .before .write-owned .ensures)
+  unfolding pathPart byteOf factsOf
+  returns-2 c = if-not _ _ (c .before .before .before .before .before .before .is-kind .ensures) (c .before .before .before .before .before .if1 .left) (c .before .before .write-owned .ensures)
 
   pub closed : {M : Type 1} → lts.Closed claims (part-of-at t) part-of.Post M
   closed = lts.spec claims (part-of-at t) part-of.Post (λ c κs. search needs) (λ c κs. search needs) (λ c. search needs) returns (λ c κs. search needs) (λ c. search needs) returns-2

@@ -3,7 +3,7 @@ use Rattle.kinds.specs.Facts.{byteOf, factsOf}
 use Rattle.meaning.proofs.Chain as chain
 use Rattle.patterns.specs.Pattern.{patChild}
 use Rattle.steps.proofs.FlowLaws.{keeps}
-use Rattle.patterns.proofs.PatLaws.{kind-yes, kind-no}
+use Rattle.steps.proofs.RuleLaws.{if-so, if-not}
 use borrow.Author.Needs.{needs}
 use Prim.Native.Nat.{ℕ}
 use Rattle.patterns.proofs.pat.by_kind.Reads as by-kind
@@ -24,35 +24,35 @@ module _ (t : ℕ) where
 
   returns : lts.Need-returns claims (by-kind-at t) by-kind.Post
   unfolding patChild byteOf factsOf
-  returns c = kind-yes _ _ (c .before .before .before .before .before .before .is-kind .ensures) (c .before .before .before .before .before .if1 .taken) (c .before .before .pat-lit .ensures)
+  returns c = if-so _ _ (c .before .before .before .before .before .before .is-kind .ensures) (c .before .before .before .before .before .if1 .taken) (c .before .before .pat-lit .ensures)
 
   returns-2 : lts.Need-returns-2 claims (by-kind-at t) by-kind.Post
   unfolding patChild byteOf factsOf
-  returns-2 c = kind-no _ _ (c .before .before .before .before .before .before .before .before .is-kind .ensures) (c .before .before .before .before .before .before .before .if1 .left) (kind-yes _ _ (c .before .before .before .before .before .before .is-kind2 .ensures) (c .before .before .before .before .before .if2 .taken) (c .before .before .write-owned .ensures))
+  returns-2 c = if-not _ _ (c .before .before .before .before .before .before .before .before .is-kind .ensures) (c .before .before .before .before .before .before .before .if1 .left) (if-so _ _ (c .before .before .before .before .before .before .is-kind2 .ensures) (c .before .before .before .before .before .if2 .taken) (c .before .before .write-owned .ensures))
 
   returns-3 : lts.Need-returns-3 claims (by-kind-at t) by-kind.Post
   unfolding patChild byteOf factsOf
-  returns-3 c = kind-no _ _ (c .before .before .before .before .before .before .before .before .before .before .is-kind .ensures) (c .before .before .before .before .before .before .before .before .before .if1 .left) (kind-no _ _ (c .before .before .before .before .before .before .before .before .is-kind2 .ensures) (c .before .before .before .before .before .before .before .if2 .left) (kind-yes _ _ (c .before .before .before .before .before .before .is-kind3 .ensures) (c .before .before .before .before .before .if3 .taken) (c .before .before .write-owned2 .ensures)))
+  returns-3 c = if-not _ _ (c .before .before .before .before .before .before .before .before .before .before .is-kind .ensures) (c .before .before .before .before .before .before .before .before .before .if1 .left) (if-not _ _ (c .before .before .before .before .before .before .before .before .is-kind2 .ensures) (c .before .before .before .before .before .before .before .if2 .left) (if-so _ _ (c .before .before .before .before .before .before .is-kind3 .ensures) (c .before .before .before .before .before .if3 .taken) (c .before .before .write-owned2 .ensures)))
 
   returns-4 : lts.Need-returns-4 claims (by-kind-at t) by-kind.Post
   unfolding patChild byteOf factsOf
-  returns-4 c = kind-no _ _ (c .before .before .before .before .before .before .before .before .before .before .before .before .is-kind .ensures) (c .before .before .before .before .before .before .before .before .before .before .before .if1 .left) (kind-no _ _ (c .before .before .before .before .before .before .before .before .before .before .is-kind2 .ensures) (c .before .before .before .before .before .before .before .before .before .if2 .left) (kind-no _ _ (c .before .before .before .before .before .before .before .before .is-kind3 .ensures) (c .before .before .before .before .before .before .before .if3 .left) (kind-yes _ _ (c .before .before .before .before .before .before .is-kind4 .ensures) (c .before .before .before .before .before .if4 .taken) (c .before .before .path .ensures))))
+  returns-4 c = if-not _ _ (c .before .before .before .before .before .before .before .before .before .before .before .before .is-kind .ensures) (c .before .before .before .before .before .before .before .before .before .before .before .if1 .left) (if-not _ _ (c .before .before .before .before .before .before .before .before .before .before .is-kind2 .ensures) (c .before .before .before .before .before .before .before .before .before .if2 .left) (if-not _ _ (c .before .before .before .before .before .before .before .before .is-kind3 .ensures) (c .before .before .before .before .before .before .before .if3 .left) (if-so _ _ (c .before .before .before .before .before .before .is-kind4 .ensures) (c .before .before .before .before .before .if4 .taken) (c .before .before .path .ensures))))
 
   returns-5 : lts.Need-returns-5 claims (by-kind-at t) by-kind.Post
   unfolding patChild byteOf factsOf
-  returns-5 c = kind-no _ _ (c .before .before .before .before .before .before .before .before .before .before .before .before .before .before .is-kind .ensures) (c .before .before .before .before .before .before .before .before .before .before .before .before .before .if1 .left) (kind-no _ _ (c .before .before .before .before .before .before .before .before .before .before .before .before .is-kind2 .ensures) (c .before .before .before .before .before .before .before .before .before .before .before .if2 .left) (kind-no _ _ (c .before .before .before .before .before .before .before .before .before .before .is-kind3 .ensures) (c .before .before .before .before .before .before .before .before .before .if3 .left) (kind-no _ _ (c .before .before .before .before .before .before .before .before .is-kind4 .ensures) (c .before .before .before .before .before .before .before .if4 .left) (kind-yes _ _ (c .before .before .before .before .before .before .is-kind5 .ensures) (c .before .before .before .before .before .if5 .taken) (c .before .before .pat-array .ensures)))))
+  returns-5 c = if-not _ _ (c .before .before .before .before .before .before .before .before .before .before .before .before .before .before .is-kind .ensures) (c .before .before .before .before .before .before .before .before .before .before .before .before .before .if1 .left) (if-not _ _ (c .before .before .before .before .before .before .before .before .before .before .before .before .is-kind2 .ensures) (c .before .before .before .before .before .before .before .before .before .before .before .if2 .left) (if-not _ _ (c .before .before .before .before .before .before .before .before .before .before .is-kind3 .ensures) (c .before .before .before .before .before .before .before .before .before .if3 .left) (if-not _ _ (c .before .before .before .before .before .before .before .before .is-kind4 .ensures) (c .before .before .before .before .before .before .before .if4 .left) (if-so _ _ (c .before .before .before .before .before .before .is-kind5 .ensures) (c .before .before .before .before .before .if5 .taken) (c .before .before .pat-array .ensures)))))
 
   returns-6 : lts.Need-returns-6 claims (by-kind-at t) by-kind.Post
   unfolding patChild byteOf factsOf
-  returns-6 c = kind-no _ _ (c .before .before .before .before .before .before .before .before .before .before .before .before .before .before .before .before .is-kind .ensures) (c .before .before .before .before .before .before .before .before .before .before .before .before .before .before .before .if1 .left) (kind-no _ _ (c .before .before .before .before .before .before .before .before .before .before .before .before .before .before .is-kind2 .ensures) (c .before .before .before .before .before .before .before .before .before .before .before .before .before .if2 .left) (kind-no _ _ (c .before .before .before .before .before .before .before .before .before .before .before .before .is-kind3 .ensures) (c .before .before .before .before .before .before .before .before .before .before .before .if3 .left) (kind-no _ _ (c .before .before .before .before .before .before .before .before .before .before .is-kind4 .ensures) (c .before .before .before .before .before .before .before .before .before .if4 .left) (kind-no _ _ (c .before .before .before .before .before .before .before .before .is-kind5 .ensures) (c .before .before .before .before .before .before .before .if5 .left) (kind-yes _ _ (c .before .before .before .before .before .before .is-kind6 .ensures) (c .before .before .before .before .before .if6 .taken) (c .before .before .pat-tuple .ensures))))))
+  returns-6 c = if-not _ _ (c .before .before .before .before .before .before .before .before .before .before .before .before .before .before .before .before .is-kind .ensures) (c .before .before .before .before .before .before .before .before .before .before .before .before .before .before .before .if1 .left) (if-not _ _ (c .before .before .before .before .before .before .before .before .before .before .before .before .before .before .is-kind2 .ensures) (c .before .before .before .before .before .before .before .before .before .before .before .before .before .if2 .left) (if-not _ _ (c .before .before .before .before .before .before .before .before .before .before .before .before .is-kind3 .ensures) (c .before .before .before .before .before .before .before .before .before .before .before .if3 .left) (if-not _ _ (c .before .before .before .before .before .before .before .before .before .before .is-kind4 .ensures) (c .before .before .before .before .before .before .before .before .before .if4 .left) (if-not _ _ (c .before .before .before .before .before .before .before .before .is-kind5 .ensures) (c .before .before .before .before .before .before .before .if5 .left) (if-so _ _ (c .before .before .before .before .before .before .is-kind6 .ensures) (c .before .before .before .before .before .if6 .taken) (c .before .before .pat-tuple .ensures))))))
 
   returns-7 : lts.Need-returns-7 claims (by-kind-at t) by-kind.Post
   unfolding patChild byteOf factsOf
-  returns-7 c = kind-no _ _ (c .before .before .before .before .before .before .before .before .before .before .before .before .before .before .before .before .before .before .is-kind .ensures) (c .before .before .before .before .before .before .before .before .before .before .before .before .before .before .before .before .before .if1 .left) (kind-no _ _ (c .before .before .before .before .before .before .before .before .before .before .before .before .before .before .before .before .is-kind2 .ensures) (c .before .before .before .before .before .before .before .before .before .before .before .before .before .before .before .if2 .left) (kind-no _ _ (c .before .before .before .before .before .before .before .before .before .before .before .before .before .before .is-kind3 .ensures) (c .before .before .before .before .before .before .before .before .before .before .before .before .before .if3 .left) (kind-no _ _ (c .before .before .before .before .before .before .before .before .before .before .before .before .is-kind4 .ensures) (c .before .before .before .before .before .before .before .before .before .before .before .if4 .left) (kind-no _ _ (c .before .before .before .before .before .before .before .before .before .before .is-kind5 .ensures) (c .before .before .before .before .before .before .before .before .before .if5 .left) (kind-no _ _ (c .before .before .before .before .before .before .before .before .is-kind6 .ensures) (c .before .before .before .before .before .before .before .if6 .left) (kind-yes _ _ (c .before .before .before .before .before .before .is-kind7 .ensures) (c .before .before .before .before .before .if7 .taken) (c .before .before .pat-object .ensures)))))))
+  returns-7 c = if-not _ _ (c .before .before .before .before .before .before .before .before .before .before .before .before .before .before .before .before .before .before .is-kind .ensures) (c .before .before .before .before .before .before .before .before .before .before .before .before .before .before .before .before .before .if1 .left) (if-not _ _ (c .before .before .before .before .before .before .before .before .before .before .before .before .before .before .before .before .is-kind2 .ensures) (c .before .before .before .before .before .before .before .before .before .before .before .before .before .before .before .if2 .left) (if-not _ _ (c .before .before .before .before .before .before .before .before .before .before .before .before .before .before .is-kind3 .ensures) (c .before .before .before .before .before .before .before .before .before .before .before .before .before .if3 .left) (if-not _ _ (c .before .before .before .before .before .before .before .before .before .before .before .before .is-kind4 .ensures) (c .before .before .before .before .before .before .before .before .before .before .before .if4 .left) (if-not _ _ (c .before .before .before .before .before .before .before .before .before .before .is-kind5 .ensures) (c .before .before .before .before .before .before .before .before .before .if5 .left) (if-not _ _ (c .before .before .before .before .before .before .before .before .is-kind6 .ensures) (c .before .before .before .before .before .before .before .if6 .left) (if-so _ _ (c .before .before .before .before .before .before .is-kind7 .ensures) (c .before .before .before .before .before .if7 .taken) (c .before .before .pat-object .ensures)))))))
 
   returns-8 : lts.Need-returns-8 claims (by-kind-at t) by-kind.Post
   unfolding patChild byteOf factsOf
-  returns-8 c = kind-no _ _ (c .before .before .before .before .before .before .before .before .before .before .before .before .before .before .is-kind .ensures) (c .before .before .before .before .before .before .before .before .before .before .before .before .before .if1 .left) (kind-no _ _ (c .before .before .before .before .before .before .before .before .before .before .before .before .is-kind2 .ensures) (c .before .before .before .before .before .before .before .before .before .before .before .if2 .left) (kind-no _ _ (c .before .before .before .before .before .before .before .before .before .before .is-kind3 .ensures) (c .before .before .before .before .before .before .before .before .before .if3 .left) (kind-no _ _ (c .before .before .before .before .before .before .before .before .is-kind4 .ensures) (c .before .before .before .before .before .before .before .if4 .left) (kind-no _ _ (c .before .before .before .before .before .before .is-kind5 .ensures) (c .before .before .before .before .before .if5 .left) (kind-no _ _ (c .before .before .before .before .is-kind6 .ensures) (c .before .before .before .if6 .left) (kind-no _ _ (c .before .before .is-kind7 .ensures) (c .before .if7 .left) (c .refuse .ensures .ran _ (c .before .before .before .before .before .before .before .before .before .before .before .before .before .before .before .before .before .before .args .queue .now) (c .before .before .before .before .before .before .before .before .before .before .before .before .before .before .before .before .before .before .args .out .now))))))))
+  returns-8 c = if-not _ _ (c .before .before .before .before .before .before .before .before .before .before .before .before .before .before .is-kind .ensures) (c .before .before .before .before .before .before .before .before .before .before .before .before .before .if1 .left) (if-not _ _ (c .before .before .before .before .before .before .before .before .before .before .before .before .is-kind2 .ensures) (c .before .before .before .before .before .before .before .before .before .before .before .if2 .left) (if-not _ _ (c .before .before .before .before .before .before .before .before .before .before .is-kind3 .ensures) (c .before .before .before .before .before .before .before .before .before .if3 .left) (if-not _ _ (c .before .before .before .before .before .before .before .before .is-kind4 .ensures) (c .before .before .before .before .before .before .before .if4 .left) (if-not _ _ (c .before .before .before .before .before .before .is-kind5 .ensures) (c .before .before .before .before .before .if5 .left) (if-not _ _ (c .before .before .before .before .is-kind6 .ensures) (c .before .before .before .if6 .left) (if-not _ _ (c .before .before .is-kind7 .ensures) (c .before .if7 .left) (c .refuse .ensures .ran _ (c .before .before .before .before .before .before .before .before .before .before .before .before .before .before .before .before .before .before .args .queue .now) (c .before .before .before .before .before .before .before .before .before .before .before .before .before .before .before .before .before .before .args .out .now))))))))
 
   same-length : lts.Need-same-length claims (by-kind-at t) by-kind.Post
   same-length c = chain.keeps (c .before .before .pat-lit .ensures)

@@ -6,13 +6,14 @@ use Rattle.kinds.specs.declared.Kind.{Kind}
 use Rattle.kinds.specs.Facts.{byteOf, factsOf}
 use Rattle.meaning.specs.declared.call.Call.the-variants.{Ws}
 use Rattle.meaning.proofs.Chain as chain
-use Rattle.steps.specs.Stream.{takeIf}
+use Rattle.steps.specs.Stream.{nextIs, takeIf}
 use Rattle.steps.specs.Flow.{flow, _▸_, call, write, notMet, pump, expectByte, is, expect}
 use Rattle.meaning.specs.Plan.{nothing}
 use Rattle.patterns.specs.Pattern as rule
 use Rattle.patterns.specs.Pattern.{colonPat}
 use Rattle.steps.proofs.FlowLaws.{_▹_, steady, stepped, keeps}
-use Rattle.patterns.proofs.PatLaws.{next-yes, next-no, stands}
+use Rattle.steps.proofs.RuleLaws.{where-so, where-not}
+use Rattle.patterns.proofs.PatLaws.{stands}
 use borrow.Author.Needs.{needs}
 use Prim.Native.Nat.{ℕ}
 use Rattle.steps.proofs.stream.any.Reads as any-reads
@@ -34,13 +35,13 @@ module _ (t : ℕ) where
   returns : lts.Need-returns claims (colon-pat-at t) colon-pat.Post
   unfolding colonPat expectByte byteOf factsOf
   returns c = let rs = treeOf (c .before .before .before .before .before .before .before .before .before .before .before .before .before .before .before .before .before .before .before .before .before .before .args .table .now) in let inner = rule.pat rs (c .before .before .before .before .before .before .before .before .before .before .before .before .before .before .before .before .before .before .before .before .before .before .args .depth) in
-      next-yes (is rs Kind.Colon) (pump write ▸ call Ws ▸ expect rs Kind.Pat inner) (flow nothing) (c .before .before .before .before .before .before .before .before .before .before .before .before .before .before .before .before .before .before .next-is .ensures) (c .before .before .before .before .before .before .before .before .before .before .before .before .before .before .before .before .before .if1 .taken)
+      where-so (nextIs (is rs Kind.Colon)) (pump write ▸ call Ws ▸ expect rs Kind.Pat inner) (flow nothing) _ (c .before .before .before .before .before .before .before .before .before .before .before .before .before .before .before .before .before .before .next-is .ensures) (c .before .before .before .before .before .before .before .before .before .before .before .before .before .before .before .before .before .if1 .taken)
       (c .before .before .before .before .before .before .before .before .before .before .before .before .before .before .any .ensures ▹ steady (c .before .before .before .before .before .before .before .before .before .ws .ensures) ▹ stepped (takeIf (is rs Kind.Pat)) inner notMet (c .before .before .before .before .before .before .eat .ensures .found) (c .before .before .before .before .before .before .eat .ensures .rest) (c .before .before .pat-found .ensures))
 
   returns-2 : lts.Need-returns-2 claims (colon-pat-at t) colon-pat.Post
   unfolding colonPat byteOf factsOf
   returns-2 c = let rs = treeOf (c .before .before .before .before .before .args .table .now) in
-      next-no (is rs Kind.Colon) (pump write ▸ call Ws ▸ expect rs Kind.Pat (rule.pat rs (c .before .before .before .before .before .args .depth))) (flow nothing) (c .before .next-is .ensures) (c .if1 .left) stands
+      where-not (nextIs (is rs Kind.Colon)) (pump write ▸ call Ws ▸ expect rs Kind.Pat (rule.pat rs (c .before .before .before .before .before .args .depth))) (flow nothing) _ (c .before .next-is .ensures) (c .if1 .left) stands
 
   same-length : lts.Need-same-length claims (colon-pat-at t) colon-pat.Post
   same-length c = chain.keeps (c .before .before .pat-found .ensures) ∙ chain.keeps (c .before .before .before .before .before .before .before .before .before .ws .ensures) ∙ keeps (c .before .before .before .before .before .before .before .before .before .before .before .before .before .before .any .ensures)

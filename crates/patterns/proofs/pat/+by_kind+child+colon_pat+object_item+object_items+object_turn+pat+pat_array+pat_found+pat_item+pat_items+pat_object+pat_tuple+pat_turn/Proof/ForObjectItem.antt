@@ -7,7 +7,8 @@ use Rattle.steps.specs.Flow.{_▸_, write, pump, is, expect}
 use Rattle.patterns.specs.Pattern as rule
 use Rattle.patterns.specs.Pattern.{isKey, colonPat, objectItem}
 use Rattle.steps.proofs.FlowLaws.{_▹_, keeps}
-use Rattle.patterns.proofs.PatLaws.{next-yes, next-no}
+use Rattle.steps.specs.Stream.{nextIs}
+use Rattle.steps.proofs.RuleLaws.{where-so, where-not}
 use borrow.Author.Needs.{needs}
 use Prim.Native.Nat.{ℕ}
 use Rattle.steps.proofs.stream.any.Reads as any-reads
@@ -25,12 +26,12 @@ module _ (t : ℕ) where
   returns : lts.Need-returns claims (object-item-at t) object-item.Post
   unfolding objectItem isKey byteOf factsOf
   returns c = let rs = treeOf (c .before .before .before .before .before .before .before .before .before .before .before .before .before .before .before .args .table .now) in
-      next-yes (is rs Kind.ObjectKey) (pump write ▸ colonPat rs (rule.pat rs (c .before .before .before .before .before .before .before .before .before .before .before .before .before .before .before .args .depth))) (expect rs Kind.DotDot write) (c .before .before .before .before .before .before .before .before .before .before .before .next-is .ensures) (c .before .before .before .before .before .before .before .before .before .before .if1 .taken) (c .before .before .before .before .before .before .before .any .ensures ▹ c .before .before .colon-pat .ensures)
+      where-so (nextIs (is rs Kind.ObjectKey)) (pump write ▸ colonPat rs (rule.pat rs (c .before .before .before .before .before .before .before .before .before .before .before .before .before .before .before .args .depth))) (expect rs Kind.DotDot write) _ (c .before .before .before .before .before .before .before .before .before .before .before .next-is .ensures) (c .before .before .before .before .before .before .before .before .before .before .if1 .taken) (c .before .before .before .before .before .before .before .any .ensures ▹ c .before .before .colon-pat .ensures)
 
   returns-2 : lts.Need-returns-2 claims (object-item-at t) object-item.Post
   unfolding objectItem isKey byteOf factsOf
   returns-2 c = let rs = treeOf (c .before .before .before .before .before .before .before .before .before .before .args .table .now) in
-      next-no (is rs Kind.ObjectKey) (pump write ▸ colonPat rs (rule.pat rs (c .before .before .before .before .before .before .before .before .before .before .args .depth))) (expect rs Kind.DotDot write) (c .before .before .before .before .before .before .next-is .ensures) (c .before .before .before .before .before .if1 .left) (c .before .before .token .ensures)
+      where-not (nextIs (is rs Kind.ObjectKey)) (pump write ▸ colonPat rs (rule.pat rs (c .before .before .before .before .before .before .before .before .before .before .args .depth))) (expect rs Kind.DotDot write) _ (c .before .before .before .before .before .before .next-is .ensures) (c .before .before .before .before .before .if1 .left) (c .before .before .token .ensures)
 
   same-length : lts.Need-same-length claims (object-item-at t) object-item.Post
   same-length c = keeps (c .before .before .colon-pat .ensures) ∙ keeps (c .before .before .before .before .before .before .before .any .ensures)

@@ -1,8 +1,8 @@
 -- What `use-part-of` needs.
 use borrow.Author.Needs.{needs}
-use Rattle.tree.specs.Table.{treeOf}
 use Rattle.kinds.specs.Facts.{byteOf, factsOf}
-use Rattle.uses.proofs.UseLaws.{part-group, part-whole}
+use Rattle.steps.proofs.RuleLaws.{if-so, if-not}
+use Rattle.uses.specs.Use.{usePart}
 use Prim.Native.Nat.{ℕ}
 use Rattle.steps.proofs.stream.is_kind.Reads as is-kind-reads
 use Rattle.uses.proofs.item_use.item_use_group.Reads as item-use-group
@@ -16,12 +16,12 @@ module _ (t : ℕ) where
   claims = (is-kind-reads.Asked, is-kind-reads.Learnt, item-use-group-below t, item-use-group.Post, write-owned-reads.Asked, write-owned-reads.Learnt)
 
   returns : lts.Need-returns claims (use-part-of-at t) use-part-of.Post
-  unfolding byteOf factsOf
-  returns c = part-group (treeOf (c .before .before .before .before .before .before .before .before .before .before .args .table .now)) _ (c .before .before .before .before .before .before .before .before .before .before .args .k) (c .before .before .before .before .before .before .is-kind .ensures) (c .before .before .before .before .before .if1 .taken) (c .before .before .item-use-group .ensures)
+  unfolding usePart byteOf factsOf
+  returns c = if-so _ _ (c .before .before .before .before .before .before .is-kind .ensures) (c .before .before .before .before .before .if1 .taken) (c .before .before .item-use-group .ensures)
 
   returns-2 : lts.Need-returns-2 claims (use-part-of-at t) use-part-of.Post
-  unfolding byteOf factsOf
-  returns-2 c = part-whole (treeOf (c .before .before .before .before .before .before .before .before .before .before .args .table .now)) _ (c .before .before .before .before .before .before .before .before .before .before .args .k) (c .before .before .before .before .before .before .is-kind .ensures) (c .before .before .before .before .before .if1 .left) (c .before .before .write-owned .ensures)
+  unfolding usePart byteOf factsOf
+  returns-2 c = if-not _ _ (c .before .before .before .before .before .before .is-kind .ensures) (c .before .before .before .before .before .if1 .left) (c .before .before .write-owned .ensures)
 
   pub closed : {M : Type 1} → lts.Closed claims (use-part-of-at t) use-part-of.Post M
   closed = lts.spec claims (use-part-of-at t) use-part-of.Post (λ c κs. search needs) (λ c κs. search needs) (λ c. search needs) returns (λ c κs. search needs) (λ c. search needs) returns-2
