@@ -5,10 +5,16 @@ use Rattle.tree.proofs.cursor.behind.Statement.{statement}
 use Rattle.tree.proofs.cursor.behind.Tie as tie
 
 returns : tie.Need-returns
-returns c = behind-in _ _ (c .before .before .before .before .before .size .ensures) (c .before .before .before .node .ensures) (c .if1 .taken)
+returns c =
+    let at-node = c .before .before .before in
+    let at-size = at-node .before .before in
+    behind-in _ _ (at-size .size .ensures) (at-node .node .ensures) (c .if1 .taken)
 
 returns-2 : tie.Need-returns-2
-returns-2 c = behind-out _ _ (c .before .before .before .before .before .size .ensures) (c .before .before .before .node .ensures) (c .if1 .left)
+returns-2 c =
+    let at-node = c .before .before .before in
+    let at-size = at-node .before .before in
+    behind-out _ _ (at-size .size .ensures) (at-node .node .ensures) (c .if1 .left)
 
 pub behind-spec : {M : Type 1} → statement M
 behind-spec =

@@ -6,10 +6,16 @@ use Rattle.tree.proofs.cursor.children_of.Statement.{statement}
 use Rattle.tree.proofs.cursor.children_of.Tie as tie
 
 returns : tie.Need-returns
-returns c = children-in _ (omega (arith, c .before .before .before .before .size .ensures)) (c .before .before .before .before .before .behind .ensures)
+returns c =
+    let at-size = c .before .before .before .before in
+    let at-behind = at-size .before in
+    children-in _ (omega (arith, at-size .size .ensures)) (at-behind .behind .ensures)
 
 returns-2 : tie.Need-returns-2
-returns-2 c = children-out _ (c .before .before .before .size .ensures) (c .if1 .left) (c .before .before .before .before .behind .ensures)
+returns-2 c =
+    let at-size = c .before .before .before in
+    let at-behind = at-size .before in
+    children-out _ (at-size .size .ensures) (c .if1 .left) (at-behind .behind .ensures)
 
 pub children-of-spec : {M : Type 1} → statement M
 children-of-spec =

@@ -6,7 +6,10 @@ use Rattle.tree.proofs.cursor.first.Statement.{statement}
 use Rattle.tree.proofs.cursor.first.Tie as tie
 
 returns : tie.Need-returns
-returns c = first-in _ _ (c .before .before .before .before .if1 .taken) (omega (arith, c .before .before .before .size .ensures))
+returns c =
+    let at-size = c .before .before .before in
+    let then1 = at-size .before in
+    first-in _ _ (then1 .if1 .taken) (omega (arith, at-size .size .ensures))
 
 returns-2 : tie.Need-returns-2
 returns-2 c = first-out _ _ (omega (arith, c .before .before .before .size .ensures))

@@ -16,16 +16,40 @@ abbrev μ-loop : tie.MeasureT-loop
 μ-loop table c n at₀ at = n .0 - at .0
 
 returns : tie.Need-returns Inv-loop μ-loop
-returns c = peek-out (c .before .before .before .before .before .before .loop .inv) (omega (arith, c .before .before .before .before .before .before .before .before .size .ensures))
+returns c =
+    let at-loop = c .before .before .before .before .before .before in
+    let at-size = at-loop .before .before in
+    peek-out (at-loop .loop .inv) (omega (arith, at-size .size .ensures))
 
 loop-less : tie.Need-loop-less Inv-loop μ-loop
-loop-less c = omega (arith, c .before .before .before .before .before .before .before .before .before .before .before .before .size .ensures, c .behind .ensures, behind-le (treeOf (c .before .before .before .before .before .before .before .before .before .before .before .before .before .before .args .table .now)) (c .before .before .before .before .before .before .before .before .before .before .loop .at .0) .1 (omega (arith, c .before .before .before .before .before .before .before .before .before .before .before .before .size .ensures)))
+loop-less c =
+    let at-loop = c .before .before .before .before .before .before .before .before .before .before in
+    let at-size = at-loop .before .before in
+    let start = at-size .before .before in
+    omega (
+      arith,
+      at-size .size .ensures,
+      c .behind .ensures,
+      behind-le (treeOf (start .args .table .now)) (at-loop .loop .at .0) .1
+          (omega (arith, at-size .size .ensures)),
+    )
 
 loop-again : tie.Need-loop-again Inv-loop μ-loop
-loop-again c = peek-passes (c .before .before .before .before .before .before .before .before .before .before .loop .inv) (c .before .before .before .before .before .before .before .if1 .taken) (omega (arith, c .before .before .before .before .before .before .before .before .before .before .before .before .size .ensures)) (ap passes (sym (c .before .before .before .node .ensures)) ∙ sym (c .before .before .is-passed .ensures) ∙ c .before .if3 .taken) (c .behind .ensures)
+loop-again c =
+    let at-node = c .before .before .before in
+    let then1 = at-node .before .before .before .before in
+    let at-loop = then1 .before .before .before in
+    let at-size = at-loop .before .before in
+    peek-passes (at-loop .loop .inv) (then1 .if1 .taken) (omega (arith, at-size .size .ensures))
+    (ap passes (sym (at-node .node .ensures)) ∙ sym (c .before .before .is-passed .ensures) ∙ c .before .if3 .taken) (c .behind .ensures)
 
 returns-2 : tie.Need-returns-2 Inv-loop μ-loop
-returns-2 c = peek-finds (c .before .before .before .before .before .before .before .before .before .loop .inv) (c .before .before .before .before .before .before .if1 .taken) (omega (arith, c .before .before .before .before .before .before .before .before .before .before .before .size .ensures)) (ap passes (sym (c .before .before .node .ensures)) ∙ sym (c .before .is-passed .ensures) ∙ c .if3 .left)
+returns-2 c =
+    let then1 = c .before .before .before .before .before .before in
+    let at-loop = then1 .before .before .before in
+    let at-size = at-loop .before .before in
+    peek-finds (at-loop .loop .inv) (then1 .if1 .taken) (omega (arith, at-size .size .ensures))
+    (ap passes (sym (c .before .before .node .ensures)) ∙ sym (c .before .is-passed .ensures) ∙ c .if3 .left)
 
 returns-3 : tie.Need-returns-3 Inv-loop μ-loop
 returns-3 c = peek-past (c .before .before .before .loop .inv) (c .if1 .left)

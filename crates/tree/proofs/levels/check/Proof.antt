@@ -12,10 +12,16 @@ returns : tie.Need-returns
 returns c = answers (c .before .before .before .count .ensures) (c .before .before .level .ensures) (c .enum-told .given .1)
 
 returns-2 : tie.Need-returns-2
-returns-2 c = answers (c .before .before .before .before .count .ensures) (c .before .before .before .level .ensures) (c .before .w .given .1)
+returns-2 c =
+    let at-level = c .before .before .before in
+    let at-count = at-level .before in
+    answers (at-count .count .ensures) (at-level .level .ensures) (c .before .w .given .1)
 
 returns-3 : tie.Need-returns-3
-returns-3 c = answers (c .before .before .before .before .count .ensures) (c .before .before .before .level .ensures) (c .before .w2 .given .1)
+returns-3 c =
+    let at-level = c .before .before .before in
+    let at-count = at-level .before in
+    answers (at-count .count .ensures) (at-level .level .ensures) (c .before .w2 .given .1)
 
 pub check-spec : {M : Type 1} → statement M
 check-spec =

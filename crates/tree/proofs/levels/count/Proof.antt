@@ -16,16 +16,32 @@ abbrev μ-loop : tie.MeasureT-loop
 μ-loop list n₀ at₀ n at = length list - at
 
 add-n : tie.Need-add-n Inv-loop μ-loop
-add-n c = omega (arith, c .before .before .before .loop .inv, c .before .past-leaves .ensures .counted, records-few 0 (c .before .before .before .before .before .args .list .now))
+add-n c =
+    let at-loop = c .before .before .before in
+    let start = at-loop .before .before in
+    omega (arith, at-loop .loop .inv, c .before .past-leaves .ensures .counted, records-few 0 (start .args .list .now))
 
 add-n-2 : tie.Need-add-n-2 Inv-loop μ-loop
-add-n-2 c = omega (arith, c .before .before .before .before .loop .inv, c .before .before .past-leaves .ensures .counted, records-few 0 (c .before .before .before .before .before .before .args .list .now))
+add-n-2 c =
+    let at-loop = c .before .before .before .before in
+    let start = at-loop .before .before in
+    omega (arith, at-loop .loop .inv, c .before .before .past-leaves .ensures .counted, records-few 0 (start .args .list .now))
 
 loop-less : tie.Need-loop-less Inv-loop μ-loop
 loop-less c = omega (arith, c .before .before .past-leaves .ensures .forth)
 
 loop-again : tie.Need-loop-again Inv-loop μ-loop
-loop-again c = omega (arith, c .before .before .before .before .loop .inv, c .before .before .past-leaves .ensures .counted, node-next (c .before .before .before .before .before .before .args .list .now) (c .before .before .past-leaves .result .at) (c .if1 .taken) (c .before .before .past-leaves .ensures .stops (c .if1 .taken)))
+loop-again c =
+    let at-past-leaves = c .before .before in
+    let at-loop = at-past-leaves .before .before in
+    let start = at-loop .before .before in
+    omega (
+      arith,
+      at-loop .loop .inv,
+      at-past-leaves .past-leaves .ensures .counted,
+      node-next (start .args .list .now) (at-past-leaves .past-leaves .result .at)
+          (c .if1 .taken) (at-past-leaves .past-leaves .ensures .stops (c .if1 .taken)),
+    )
 
 loop-again-2 : tie.Need-loop-again-2 Inv-loop μ-loop
 loop-again-2 c = omega (arith, c .before .before .before .before .loop .inv, c .before .before .past-leaves .ensures .counted)

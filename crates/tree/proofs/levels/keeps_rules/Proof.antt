@@ -8,11 +8,17 @@ use Rattle.tree.proofs.levels.keeps_rules.Tie as tie
 
 returns : tie.Need-returns
 unfolding keeps
-returns c = c .in-source .ensures ∙ sym (rw (c .before .before .before .before .if1 .taken, le-leb _ _ (c .before .before .before .if2 .taken), le-leb _ _ (c .before .before .if3 .taken), le-leb _ _ (c .before .if4 .taken)))
+returns c =
+    let then2 = c .before .before .before in
+    let then1 = then2 .before in
+    c .in-source .ensures
+    ∙ sym (rw (then1 .if1 .taken, le-leb _ _ (then2 .if2 .taken), le-leb _ _ (c .before .before .if3 .taken), le-leb _ _ (c .before .if4 .taken)))
 
 returns-2 : tie.Need-returns-2
 unfolding keeps
-returns-2 c = sym (rw (c .before .before .before .if1 .taken, le-leb _ _ (c .before .before .if2 .taken), le-leb _ _ (c .before .if3 .taken), lt-leb _ _ (c .if4 .left)))
+returns-2 c =
+    let then1 = c .before .before .before in
+    sym (rw (then1 .if1 .taken, le-leb _ _ (c .before .before .if2 .taken), le-leb _ _ (c .before .if3 .taken), lt-leb _ _ (c .if4 .left)))
 
 returns-3 : tie.Need-returns-3
 unfolding keeps

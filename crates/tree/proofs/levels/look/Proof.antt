@@ -6,10 +6,16 @@ use Rattle.tree.proofs.levels.look.Statement.{statement}
 use Rattle.tree.proofs.levels.look.Tie as tie
 
 returns-2 : tie.Need-returns-2
-returns-2 c = look-kept _ _ _ _ (c .before .before .before .before .if1 .left) (c .before .before .before .record-at .ensures) (sym (c .if2 .taken) ∙ c .before .keeps-rules .ensures)
+returns-2 c =
+    let at-record-at = c .before .before .before in
+    let else1 = at-record-at .before in
+    look-kept _ _ _ _ (else1 .if1 .left) (at-record-at .record-at .ensures) (sym (c .if2 .taken) ∙ c .before .keeps-rules .ensures)
 
 returns-3 : tie.Need-returns-3
-returns-3 c = look-bad _ _ _ _ (c .before .before .before .before .if1 .left) (c .before .before .before .record-at .ensures) (sym (c .if2 .left) ∙ c .before .keeps-rules .ensures)
+returns-3 c =
+    let at-record-at = c .before .before .before in
+    let else1 = at-record-at .before in
+    look-bad _ _ _ _ (else1 .if1 .left) (at-record-at .record-at .ensures) (sym (c .if2 .left) ∙ c .before .keeps-rules .ensures)
 
 pub look-spec : {M : Type 1} → statement M
 look-spec =

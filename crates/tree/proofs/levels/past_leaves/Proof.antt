@@ -20,10 +20,16 @@ returns : tie.Need-returns Inv-loop μ-loop
 returns c = record { forth = c .before .before .before .loop .inv .0; counted = c .before .before .before .loop .inv .1; stops = λ h. c .if1 .taken }
 
 add-n : tie.Need-add-n Inv-loop μ-loop
-add-n c = omega (arith, c .before .before .before .loop .inv .1, records-few 0 (drop (c .before .before .before .before .args .from) (c .before .before .before .before .args .list .now)), length-drop (c .before .before .before .before .args .from) (c .before .before .before .before .args .list .now))
+add-n c =
+    let at-loop = c .before .before .before in
+    let start = at-loop .before in
+    omega (arith, at-loop .loop .inv .1, records-few 0 (drop (start .args .from) (start .args .list .now)), length-drop (start .args .from) (start .args .list .now))
 
 loop-again : tie.Need-loop-again Inv-loop μ-loop
-loop-again c = (omega arith, omega (arith, c .before .before .before .loop .inv .1, leaf-next (c .before .before .before .before .args .list .now) (c .before .before .before .loop .at) (c .before .before .loop-test .taken) (c .if1 .left)))
+loop-again c =
+    let at-loop = c .before .before .before in
+    let start = at-loop .before in
+    (omega arith, omega (arith, at-loop .loop .inv .1, leaf-next (start .args .list .now) (at-loop .loop .at) (c .before .before .loop-test .taken) (c .if1 .left)))
 
 returns-2 : tie.Need-returns-2 Inv-loop μ-loop
 returns-2 c = record { forth = c .before .loop .inv .0; counted = c .before .loop .inv .1; stops = λ h. absurd (omega arith) }

@@ -12,22 +12,37 @@ returns : tie.Need-returns
 returns c = c .cut .ensures ∙ sym (record-none _ _ (c .before .if1 .taken))
 
 returns-2 : tie.Need-returns-2
-returns-2 c = c .cut2 .ensures ∙ sym (record-cut (c .before .before .before .before .before .before .args .list .now) (c .before .before .before .before .before .before .args .at) (omega arith) (omega arith))
+returns-2 c =
+    let start = c .before .before .before .before .before .before in
+    c .cut2 .ensures ∙ sym (record-cut (start .args .list .now) (start .args .at) (omega arith) (omega arith))
 
 four-at-requires : tie.Need-four-at-requires
-four-at-requires c κs = omega (arith, body-le (getD (c .before .before .before .before .before .args .list .now) (c .before .before .before .before .before .args .at) 0))
+four-at-requires c κs =
+    let start = c .before .before .before .before .before in
+    omega (arith, body-le (getD (start .args .list .now) (start .args .at) 0))
 
 four-at-requires-2 : tie.Need-four-at-requires-2
-four-at-requires-2 c κs = omega (arith, body-le (getD (c .before .before .before .before .before .before .args .list .now) (c .before .before .before .before .before .before .args .at) 0))
+four-at-requires-2 c κs =
+    let start = c .before .before .before .before .before .before in
+    omega (arith, body-le (getD (start .args .list .now) (start .args .at) 0))
 
 returns-3 : tie.Need-returns-3
-returns-3 c = record-whole (c .before .before .before .before .before .before .before .before .args .list .now) (c .before .before .before .before .before .before .before .before .args .at) (omega arith) _ _ _ (omega arith) (c .before .before .four-at .ensures) (c .before .four-at2 .ensures) (rw (lt-ltb _ _ (c .if3 .taken)))
+returns-3 c =
+    let start = c .before .before .before .before .before .before .before .before in
+    record-whole (start .args .list .now) (start .args .at) (omega arith) _ _ _ (omega arith) (c .before .before .four-at .ensures)
+    (c .before .four-at2 .ensures) (rw (lt-ltb _ _ (c .if3 .taken)))
 
 four-at-requires-3 : tie.Need-four-at-requires-3
-four-at-requires-3 c κs = omega (arith, body-big (getD (c .before .before .before .before .before .before .before .before .args .list .now) (c .before .before .before .before .before .before .before .before .args .at) 0) (c .if3 .left))
+four-at-requires-3 c κs =
+    let start = c .before .before .before .before .before .before .before .before in
+    omega (arith, body-big (getD (start .args .list .now) (start .args .at) 0) (c .if3 .left))
 
 returns-4 : tie.Need-returns-4
-returns-4 c = record-whole (c .before .before .before .before .before .before .before .before .before .args .list .now) (c .before .before .before .before .before .before .before .before .before .args .at) (omega arith) _ _ _ (omega arith) (c .before .before .before .four-at .ensures) (c .before .before .four-at2 .ensures) (rw (le-ltb _ _ (c .before .if3 .left)) (c .four-at3 .ensures))
+returns-4 c =
+    let at-four-at = c .before .before .before in
+    let start = at-four-at .before .before .before .before .before .before in
+    record-whole (start .args .list .now) (start .args .at) (omega arith) _ _ _ (omega arith) (at-four-at .four-at .ensures)
+    (c .before .before .four-at2 .ensures) (rw (le-ltb _ _ (c .before .if3 .left)) (c .four-at3 .ensures))
 
 pub record-at-spec : {M : Type 1} → statement M
 record-at-spec =
