@@ -13,19 +13,32 @@ returns c = at-inner _ _ _ _ (c .if1 .taken)
 
 returns-2 : tie.Need-returns-2
 unfolding entryOf
-returns-2 c = let z : c .before .before .before .before .before .before .args .r .below ≡ 0 = omega arith in rw (z, c .before .if2 .taken) (ap blank (c .newlines-in .ensures))
+returns-2 c =
+    let start = c .before .before .before .before .before .before in
+    let z : start .args .r .below ≡ 0 = omega arith in
+    rw (z, c .before .if2 .taken) (ap blank (c .newlines-in .ensures))
 
 returns-3 : tie.Need-returns-3
 unfolding entryOf
-returns-3 c = let z : c .before .before .before .before .before .before .before .args .r .below ≡ 0 = omega arith in rw (z, c .if3 .taken)
+returns-3 c =
+    let start = c .before .before .before .before .before .before .before in
+    let z : start .args .r .below ≡ 0 = omega arith in
+    rw (z, c .if3 .taken)
 
 returns-4 : tie.Need-returns-4
 unfolding entryOf
-returns-4 c = let z : c .before .before .before .before .before .before .before .before .before .args .r .below ≡ 0 = omega arith in rw (z, c .if4 .taken)
+returns-4 c =
+    let start = c .before .before .before .before .before .before .before .before .before in
+    let z : start .args .r .below ≡ 0 = omega arith in
+    rw (z, c .if4 .taken)
 
 returns-5 : tie.Need-returns-5
 unfolding entryOf
-returns-5 c = let z : c .before .before .before .before .before .before .before .before .before .args .r .below ≡ 0 = omega arith in rw z (at-stop _ _ _ (c .before .before .before .before .if2 .left) (c .before .before .if3 .left) (c .if4 .left))
+returns-5 c =
+    let else2 = c .before .before .before .before in
+    let start = else2 .before .before .before .before .before in
+    let z : start .args .r .below ≡ 0 = omega arith in
+    rw z (at-stop _ _ _ (else2 .if2 .left) (c .before .before .if3 .left) (c .if4 .left))
 
 pub entry-of-spec : {M : Type 1} → statement M
 entry-of-spec =

@@ -9,7 +9,11 @@ use Rattle.queue.proofs.collect.newlines_in.Statement.{statement}
 use Rattle.queue.proofs.collect.newlines_in.Tie as tie
 
 cast-result : tie.Need-cast-result
-cast-result c = let e : c .count-newlines .result ≡ newlines (textOf (c .before .before .before .args .src .now) (c .before .before .before .args .span)) = c .count-newlines .ensures ∙ ap newlines (c .before .part .ensures) in omega (arith, newlines-fit (c .before .before .before .args .src .now) (c .before .before .before .args .span))
+cast-result c =
+    let start = c .before .before .before in
+    let e : c .count-newlines .result ≡ newlines (textOf (start .args .src .now) (start .args .span)) = c .count-newlines .ensures
+    ∙ ap newlines (c .before .part .ensures) in
+    omega (arith, newlines-fit (start .args .src .now) (start .args .span))
 
 returns : tie.Need-returns
 returns c = c .count-newlines .ensures ∙ ap newlines (c .before .part .ensures)

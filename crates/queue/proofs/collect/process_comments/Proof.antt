@@ -19,19 +19,57 @@ abbrev μ-loop : tie.MeasureT-loop
 μ-loop src table queue₀ run end i₀ lines₀ count₀ queue i lines count = end - i
 
 loop-again : tie.Need-loop-again Inv-loop μ-loop
-loop-again c = (c .before .before .before .before .before .loop .inv .0, gather-inner (c .before .before .before .before .before .loop .inv .1) (c .before .before .before .node .result) (c .before .before .entry-of .result) (omega (arith, c .before .before .before .before .before .loop .inv .0)) (c .before .before .before .node .ensures) (c .before .before .entry-of .ensures) (ap (asEntry (c .before .before .before .node .result .span)) (c .enum-told .given .1)))
+loop-again c =
+    let at-node = c .before .before .before in
+    let at-loop = at-node .before .before in (
+      at-loop .loop .inv .0,
+      gather-inner (at-loop .loop .inv .1) (at-node .node .result) (c .before .before .entry-of .result)
+          (omega (arith, at-loop .loop .inv .0)) (at-node .node .ensures) (c .before .before .entry-of .ensures)
+          (ap (asEntry (at-node .node .result .span)) (c .enum-told .given .1)),
+    )
 
 loop-again-2 : tie.Need-loop-again-2 Inv-loop μ-loop
-loop-again-2 c = (c .before .before .before .before .before .before .before .loop .inv .0, gather-blank (c .before .before .before .before .before .before .before .loop .inv .1) (c .before .before .before .before .before .node .result) (c .before .before .before .before .entry-of .result) (omega (arith, c .before .before .before .before .before .before .before .loop .inv .0)) (c .before .before .before .before .before .node .ensures) (c .before .before .before .before .entry-of .ensures) _ _ (ap (asEntry (c .before .before .before .before .before .node .result .span)) (c .before .before .e .given .1)) (c .or-else .ensures))
+loop-again-2 c =
+    let at-entry-of = c .before .before .before .before in
+    let at-node = at-entry-of .before in
+    let at-loop = at-node .before .before in (
+      at-loop .loop .inv .0,
+      gather-blank (at-loop .loop .inv .1) (at-node .node .result) (at-entry-of .entry-of .result)
+          (omega (arith, at-loop .loop .inv .0)) (at-node .node .ensures) (at-entry-of .entry-of .ensures) _ _
+          (ap (asEntry (at-node .node .result .span)) (c .before .before .e .given .1)) (c .or-else .ensures),
+    )
 
 returns : tie.Need-returns Inv-loop μ-loop
-returns c = gather-full (c .before .before .before .before .before .before .before .before .loop .inv .1) (c .before .before .before .before .before .before .node .result) (c .before .before .before .before .before .entry-of .result) (omega (arith, c .before .before .before .before .before .before .before .before .loop .inv .0)) (c .before .before .before .before .before .before .node .ensures) (c .before .before .before .before .before .entry-of .ensures) _ (ap (asEntry (c .before .before .before .before .before .before .node .result .span)) (c .before .before .before .e2 .given .1)) (c .before .if1 .taken) (c .refused .ensures)
+returns c =
+    let at-e2 = c .before .before .before in
+    let at-entry-of = at-e2 .before .before in
+    let at-node = at-entry-of .before in
+    let at-loop = at-node .before .before in
+    gather-full (at-loop .loop .inv .1) (at-node .node .result) (at-entry-of .entry-of .result) (omega (arith, at-loop .loop .inv .0))
+    (at-node .node .ensures) (at-entry-of .entry-of .ensures) _ (ap (asEntry (at-node .node .result .span)) (at-e2 .e2 .given .1)) (c .before .if1 .taken)
+    (c .refused .ensures)
 
 loop-again-3 : tie.Need-loop-again-3 Inv-loop μ-loop
-loop-again-3 c = (c .before .before .before .before .before .before .before .before .before .before .loop .inv .0, gather-note (c .before .before .before .before .before .before .before .before .before .before .loop .inv .1) (c .before .before .before .before .before .before .before .before .node .result) (c .before .before .before .before .before .before .before .entry-of .result) (omega (arith, c .before .before .before .before .before .before .before .before .before .before .loop .inv .0)) (c .before .before .before .before .before .before .before .before .node .ensures) (c .before .before .before .before .before .before .before .entry-of .ensures) _ _ (ap (asEntry (c .before .before .before .before .before .before .before .before .node .result .span)) (c .before .before .before .before .before .e2 .given .1)) (c .before .before .before .if1 .left) (c .push .ensures))
+loop-again-3 c =
+    let else1 = c .before .before .before in
+    let at-e2 = else1 .before .before in
+    let at-entry-of = at-e2 .before .before in
+    let at-node = at-entry-of .before in
+    let at-loop = at-node .before .before in (
+      at-loop .loop .inv .0,
+      gather-note (at-loop .loop .inv .1) (at-node .node .result) (at-entry-of .entry-of .result)
+          (omega (arith, at-loop .loop .inv .0)) (at-node .node .ensures) (at-entry-of .entry-of .ensures) _ _
+          (ap (asEntry (at-node .node .result .span)) (at-e2 .e2 .given .1)) (else1 .if1 .left) (c .push .ensures),
+    )
 
 returns-2 : tie.Need-returns-2 Inv-loop μ-loop
-returns-2 c = gather-stop (c .before .before .before .before .before .before .loop .inv .1) (c .before .before .before .before .node .result) (c .before .before .before .entry-of .result) (omega (arith, c .before .before .before .before .before .before .loop .inv .0)) (c .before .before .before .before .node .ensures) (c .before .before .before .entry-of .ensures) (ap (asEntry (c .before .before .before .before .node .result .span)) (c .before .enum-told2 .given .1)) (c .collected .ensures)
+returns-2 c =
+    let at-entry-of = c .before .before .before in
+    let at-node = at-entry-of .before in
+    let at-loop = at-node .before .before in
+    gather-stop (at-loop .loop .inv .1) (at-node .node .result) (at-entry-of .entry-of .result) (omega (arith, at-loop .loop .inv .0))
+    (at-node .node .ensures) (at-entry-of .entry-of .ensures) (ap (asEntry (at-node .node .result .span)) (c .before .enum-told2 .given .1))
+    (c .collected .ensures)
 
 returns-3 : tie.Need-returns-3 Inv-loop μ-loop
 returns-3 c = gather-end (c .before .before .loop .inv .1) (omega (arith, c .before .before .loop .inv .0)) (c .collected2 .ensures)

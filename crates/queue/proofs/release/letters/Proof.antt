@@ -6,7 +6,9 @@ use Rattle.queue.proofs.release.letters.Statement.{statement}
 use Rattle.queue.proofs.release.letters.Tie as tie
 
 returns : tie.Need-returns
-returns c = rw (c .before .before .enum-told .given .1, c .before .if1 .taken) (c .trimmed .ensures ∙ ap trim (c .before .before .before .before .part .ensures))
+returns c =
+    let at-part = c .before .before .before .before in
+    rw (c .before .before .enum-told .given .1, c .before .if1 .taken) (c .trimmed .ensures ∙ ap trim (at-part .part .ensures))
 
 returns-2 : tie.Need-returns-2
 returns-2 c = rw (c .before .enum-told .given .1, c .if1 .left) (c .before .before .before .part .ensures)

@@ -22,10 +22,28 @@ loop-holds : tie.Need-loop-holds Inv-loop μ-loop
 loop-holds c = (search needs, measure-start _ _ _ (c .in-front .ensures) (tab-all _ _ _) (c .before .if1 .left))
 
 returns-2 : tie.Need-returns-2 Inv-loop μ-loop
-returns-2 c = measure-stop _ _ _ (ring-next (c .before .before .before .before .before .before .before .before .before .args .queue .now) (c .before .before .before .before .before .before .before .before .before .args .run .head) (c .before .before .before .before .before .before .before .before .before .args .run .count) (c .before .before .before .before .before .loop .i) _ (c .before .before .before .if2 .taken) (c .before .before .comment-at .ensures)) (sym (c .before .stops .ensures) ∙ c .if3 .taken) (c .before .before .before .before .before .loop .inv .1)
+returns-2 c =
+    let then2 = c .before .before .before in
+    let at-loop = then2 .before .before in
+    let start = at-loop .before .before .before .before in
+    measure-stop _ _ _
+    (ring-next (start .args .queue .now) (start .args .run .head) (start .args .run .count) (at-loop .loop .i) _ (then2 .if2 .taken)
+    (c .before .before .comment-at .ensures))
+    (sym (c .before .stops .ensures) ∙ c .if3 .taken) (at-loop .loop .inv .1)
 
 returns-3 : tie.Need-returns-3 Inv-loop μ-loop
-returns-3 c = measure-over _ _ _ (ring-next (c .before .before .before .before .before .before .before .before .before .before .before .before .before .args .queue .now) (c .before .before .before .before .before .before .before .before .before .before .before .before .before .args .run .head) (c .before .before .before .before .before .before .before .before .before .before .before .before .before .args .run .count) (c .before .before .before .before .before .before .before .before .before .loop .i) _ (c .before .before .before .before .before .before .before .if2 .taken) (c .before .before .before .before .before .before .comment-at .ensures)) (sym (c .before .before .before .before .before .stops .ensures) ∙ c .before .before .before .before .if3 .left) (put-of _ _ _ (c .before .before .before .gap-before .result) (c .before .before .before .gap-before .ensures) (c .before .before .letters .ensures)) (sym (c .before .passes .ensures .0) ∙ c .if4 .taken) (c .before .before .before .before .before .before .before .before .before .loop .inv .1)
+returns-3 c =
+    let at-gap-before = c .before .before .before in
+    let else3 = at-gap-before .before in
+    let at-comment-at = else3 .before .before in
+    let then2 = at-comment-at .before in
+    let at-loop = then2 .before .before in
+    let start = at-loop .before .before .before .before in
+    measure-over _ _ _
+    (ring-next (start .args .queue .now) (start .args .run .head) (start .args .run .count) (at-loop .loop .i) _ (then2 .if2 .taken) (at-comment-at .comment-at .ensures))
+    (sym (else3 .before .stops .ensures) ∙ else3 .if3 .left)
+    (put-of _ _ _ (at-gap-before .gap-before .result) (at-gap-before .gap-before .ensures) (c .before .before .letters .ensures))
+    (sym (c .before .passes .ensures .0) ∙ c .if4 .taken) (at-loop .loop .inv .1)
 
 add-len : tie.Need-add-len Inv-loop μ-loop
 add-len c = omega (arith, c .before .before .passes .ensures .1 (c .before .if4 .left))
@@ -37,10 +55,27 @@ add-len-3 : tie.Need-add-len-3 Inv-loop μ-loop
 add-len-3 c = omega (arith, c .before .before .passes .ensures .1 (c .before .if4 .left))
 
 loop-again : tie.Need-loop-again Inv-loop μ-loop
-loop-again c = (omega arith, measure-turn _ _ _ (ring-next (c .before .before .before .before .before .before .before .before .before .before .before .before .before .before .args .queue .now) (c .before .before .before .before .before .before .before .before .before .before .before .before .before .before .args .run .head) (c .before .before .before .before .before .before .before .before .before .before .before .before .before .before .args .run .count) (c .before .before .before .before .before .before .before .before .before .before .loop .i) _ (c .before .before .before .before .before .before .before .before .if2 .taken) (c .before .before .before .before .before .before .before .comment-at .ensures)) (sym (c .before .before .before .before .before .before .stops .ensures) ∙ c .before .before .before .before .before .if3 .left) (put-of _ _ _ (c .before .before .before .before .gap-before .result) (c .before .before .before .before .gap-before .ensures) (c .before .before .before .letters .ensures)) (c .before .before .passes .ensures .1 (c .before .if4 .left)) (c .before .before .before .before .before .before .before .before .before .before .loop .inv .1))
+loop-again c =
+    let at-letters = c .before .before .before in
+    let at-gap-before = at-letters .before in
+    let else3 = at-gap-before .before in
+    let at-comment-at = else3 .before .before in
+    let then2 = at-comment-at .before in
+    let at-loop = then2 .before .before in
+    let start = at-loop .before .before .before .before in (
+      omega arith,
+      measure-turn _ _ _
+          (ring-next (start .args .queue .now) (start .args .run .head) (start .args .run .count) (at-loop .loop .i) _ (then2 .if2 .taken) (at-comment-at .comment-at .ensures))
+          (sym (else3 .before .stops .ensures) ∙ else3 .if3 .left)
+          (put-of _ _ _ (at-gap-before .gap-before .result) (at-gap-before .gap-before .ensures) (at-letters .letters .ensures))
+          (c .before .before .passes .ensures .1 (c .before .if4 .left)) (at-loop .loop .inv .1),
+    )
 
 returns-4 : tie.Need-returns-4 Inv-loop μ-loop
-returns-4 c = measure-end _ _ _ (tab-none _ (c .before .before .before .before .before .before .args .run .head) (c .before .before .before .before .before .before .args .run .count) (c .before .before .loop .i) (c .if2 .left)) (c .before .before .loop .inv .1)
+returns-4 c =
+    let start = c .before .before .before .before .before .before in
+    measure-end _ _ _ (tab-none _ (start .args .run .head) (start .args .run .count) (c .before .before .loop .i) (c .if2 .left))
+    (c .before .before .loop .inv .1)
 
 pub measure-spec : {M : Type 1} → statement M
 measure-spec =

@@ -21,22 +21,86 @@ loop-holds : tie.Need-loop-holds Inv-loop μ-loop
 loop-holds c = (search needs, write-start _ _ _ (c .in-front .ensures) (tab-all _ _ _) (c .before .before .before .pre))
 
 lay-requires : tie.Need-lay-requires Inv-loop μ-loop
-lay-requires c κs = write-room _ _ _ (ring-next (c .before .before .before .before .before .before .before .before .before .args .queue .now) (c .before .before .before .before .before .before .before .before .before .args .run .head) (c .before .before .before .before .before .before .before .before .before .args .n) (c .before .before .before .before .before .loop .i) _ (c .before .before .before .before .loop-test .taken) (c .before .before .before .comment-at .ensures)) (put-of _ _ _ (c .before .before .gap-before .result) (c .before .before .gap-before .ensures) (c .before .letters .ensures)) (c .before .before .before .before .before .loop .inv .1)
+lay-requires c κs =
+    let at-comment-at = c .before .before .before in
+    let in-loop = at-comment-at .before in
+    let at-loop = in-loop .before in
+    let start = at-loop .before .before .before .before in
+    write-room _ _ _
+    (ring-next (start .args .queue .now) (start .args .run .head) (start .args .n) (at-loop .loop .i) _ (in-loop .loop-test .taken) (at-comment-at .comment-at .ensures))
+    (put-of _ _ _ (c .before .before .gap-before .result) (c .before .before .gap-before .ensures) (c .before .letters .ensures)) (at-loop .loop .inv .1)
 
 add-len : tie.Need-add-len Inv-loop μ-loop
-add-len c = omega (arith, write-room _ _ _ (ring-next (c .before .before .before .before .before .before .before .before .before .before .before .before .before .args .queue .now) (c .before .before .before .before .before .before .before .before .before .before .before .before .before .args .run .head) (c .before .before .before .before .before .before .before .before .before .before .before .before .before .args .n) (c .before .before .before .before .before .before .before .before .before .loop .i) _ (c .before .before .before .before .before .before .before .before .loop-test .taken) (c .before .before .before .before .before .before .before .comment-at .ensures)) (put-of _ _ _ (c .before .before .before .before .before .before .gap-before .result) (c .before .before .before .before .before .before .gap-before .ensures) (c .before .before .before .before .before .letters .ensures)) (c .before .before .before .before .before .before .before .before .before .loop .inv .1), c .before .before .before .before .before .before .before .before .before .loop .inv .1 .long, c .before .before .before .before .before .before .before .before .before .before .before .before .before .good)
+add-len c =
+    let at-letters = c .before .before .before .before .before in
+    let at-gap-before = at-letters .before in
+    let at-comment-at = at-gap-before .before in
+    let in-loop = at-comment-at .before in
+    let at-loop = in-loop .before in
+    let start = at-loop .before .before .before .before in
+    omega (
+      arith,
+      write-room _ _ _
+          (ring-next (start .args .queue .now) (start .args .run .head) (start .args .n) (at-loop .loop .i) _ (in-loop .loop-test .taken) (at-comment-at .comment-at .ensures))
+          (put-of _ _ _ (at-gap-before .gap-before .result) (at-gap-before .gap-before .ensures) (at-letters .letters .ensures)) (at-loop .loop .inv .1),
+      at-loop .loop .inv .1 .long,
+      start .good,
+    )
 
 add-len-2 : tie.Need-add-len-2 Inv-loop μ-loop
-add-len-2 c = omega (arith, write-room _ _ _ (ring-next (c .before .before .before .before .before .before .before .before .before .before .before .before .before .args .queue .now) (c .before .before .before .before .before .before .before .before .before .before .before .before .before .args .run .head) (c .before .before .before .before .before .before .before .before .before .before .before .before .before .args .n) (c .before .before .before .before .before .before .before .before .before .loop .i) _ (c .before .before .before .before .before .before .before .before .loop-test .taken) (c .before .before .before .before .before .before .before .comment-at .ensures)) (put-of _ _ _ (c .before .before .before .before .before .before .gap-before .result) (c .before .before .before .before .before .before .gap-before .ensures) (c .before .before .before .before .before .letters .ensures)) (c .before .before .before .before .before .before .before .before .before .loop .inv .1), c .before .before .before .before .before .before .before .before .before .loop .inv .1 .long, c .before .before .before .before .before .before .before .before .before .before .before .before .before .good)
+add-len-2 c =
+    let at-letters = c .before .before .before .before .before in
+    let at-gap-before = at-letters .before in
+    let at-comment-at = at-gap-before .before in
+    let in-loop = at-comment-at .before in
+    let at-loop = in-loop .before in
+    let start = at-loop .before .before .before .before in
+    omega (
+      arith,
+      write-room _ _ _
+          (ring-next (start .args .queue .now) (start .args .run .head) (start .args .n) (at-loop .loop .i) _ (in-loop .loop-test .taken) (at-comment-at .comment-at .ensures))
+          (put-of _ _ _ (at-gap-before .gap-before .result) (at-gap-before .gap-before .ensures) (at-letters .letters .ensures)) (at-loop .loop .inv .1),
+      at-loop .loop .inv .1 .long,
+      start .good,
+    )
 
 add-len-3 : tie.Need-add-len-3 Inv-loop μ-loop
-add-len-3 c = omega (arith, write-room _ _ _ (ring-next (c .before .before .before .before .before .before .before .before .before .before .before .before .before .args .queue .now) (c .before .before .before .before .before .before .before .before .before .before .before .before .before .args .run .head) (c .before .before .before .before .before .before .before .before .before .before .before .before .before .args .n) (c .before .before .before .before .before .before .before .before .before .loop .i) _ (c .before .before .before .before .before .before .before .before .loop-test .taken) (c .before .before .before .before .before .before .before .comment-at .ensures)) (put-of _ _ _ (c .before .before .before .before .before .before .gap-before .result) (c .before .before .before .before .before .before .gap-before .ensures) (c .before .before .before .before .before .letters .ensures)) (c .before .before .before .before .before .before .before .before .before .loop .inv .1), c .before .before .before .before .before .before .before .before .before .loop .inv .1 .long, c .before .before .before .before .before .before .before .before .before .before .before .before .before .good)
+add-len-3 c =
+    let at-letters = c .before .before .before .before .before in
+    let at-gap-before = at-letters .before in
+    let at-comment-at = at-gap-before .before in
+    let in-loop = at-comment-at .before in
+    let at-loop = in-loop .before in
+    let start = at-loop .before .before .before .before in
+    omega (
+      arith,
+      write-room _ _ _
+          (ring-next (start .args .queue .now) (start .args .run .head) (start .args .n) (at-loop .loop .i) _ (in-loop .loop-test .taken) (at-comment-at .comment-at .ensures))
+          (put-of _ _ _ (at-gap-before .gap-before .result) (at-gap-before .gap-before .ensures) (at-letters .letters .ensures)) (at-loop .loop .inv .1),
+      at-loop .loop .inv .1 .long,
+      start .good,
+    )
 
 loop-again : tie.Need-loop-again Inv-loop μ-loop
-loop-again c = (omega arith, write-turn _ _ _ (ring-next (c .before .before .before .before .before .before .before .before .before .before .before .before .before .args .queue .now) (c .before .before .before .before .before .before .before .before .before .before .before .before .before .args .run .head) (c .before .before .before .before .before .before .before .before .before .before .before .before .before .args .n) (c .before .before .before .before .before .before .before .before .before .loop .i) _ (c .before .before .before .before .before .before .before .before .loop-test .taken) (c .before .before .before .before .before .before .before .comment-at .ensures)) (put-of _ _ _ (c .before .before .before .before .before .before .gap-before .result) (c .before .before .before .before .before .before .gap-before .ensures) (c .before .before .before .before .before .letters .ensures)) (c .before .before .before .before .before .before .before .before .before .loop .inv .1) (c .before .before .before .lay .ensures))
+loop-again c =
+    let at-lay = c .before .before .before in
+    let at-letters = at-lay .before .before in
+    let at-gap-before = at-letters .before in
+    let at-comment-at = at-gap-before .before in
+    let in-loop = at-comment-at .before in
+    let at-loop = in-loop .before in
+    let start = at-loop .before .before .before .before in (
+      omega arith,
+      write-turn _ _ _
+          (ring-next (start .args .queue .now) (start .args .run .head) (start .args .n) (at-loop .loop .i) _ (in-loop .loop-test .taken) (at-comment-at .comment-at .ensures))
+          (put-of _ _ _ (at-gap-before .gap-before .result) (at-gap-before .gap-before .ensures) (at-letters .letters .ensures)) (at-loop .loop .inv .1)
+          (at-lay .lay .ensures),
+    )
 
 returns : tie.Need-returns Inv-loop μ-loop
-returns c = write-end _ _ _ (tab-none _ (c .before .before .before .before .before .args .run .head) (c .before .before .before .before .before .args .n) (c .before .loop .i) (c .loop-test .left)) (c .before .loop .inv .1)
+returns c =
+    let start = c .before .before .before .before .before in
+    write-end _ _ _ (tab-none _ (start .args .run .head) (start .args .n) (c .before .loop .i) (c .loop-test .left)) (c .before .loop .inv .1)
 
 pub write-spec : {M : Type 1} → statement M
 write-spec =

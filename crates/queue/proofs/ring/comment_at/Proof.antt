@@ -6,7 +6,10 @@ use Rattle.queue.proofs.ring.comment_at.Statement.{statement}
 use Rattle.queue.proofs.ring.comment_at.Tie as tie
 
 returns : tie.Need-returns
-returns c = ap (commentFrom (c .before .before .before .before .before .args .queue .now)) (c .before .before .before .before .slot .ensures)
+returns c =
+    let at-slot = c .before .before .before .before in
+    let start = at-slot .before in
+    ap (commentFrom (start .args .queue .now)) (at-slot .slot .ensures)
 
 pub comment-at-spec : {M : Type 1} → statement M
 comment-at-spec =

@@ -7,7 +7,11 @@ use Rattle.queue.proofs.ring.push.Statement.{statement}
 use Rattle.queue.proofs.ring.push.Tie as tie
 
 returns : tie.Need-returns
-returns c = rw (c .store .ensures) (push-law (c .before .before .before .before .before .before .args .queue .now) (c .before .before .before .before .before .before .args .head) (c .before .before .before .before .before .before .args .count) (c .before .slot .result) (asComment (c .before .before .before .before .before .before .args .c)) (search needs) (c .before .before .before .before .before .before .pre) (c .before .slot .ensures))
+returns c =
+    let start = c .before .before .before .before .before .before in
+    rw (c .store .ensures)
+    (push-law (start .args .queue .now) (start .args .head) (start .args .count) (c .before .slot .result) (asComment (start .args .c)) (search needs)
+    (start .pre) (c .before .slot .ensures))
 
 pub push-spec : {M : Type 1} → statement M
 push-spec =

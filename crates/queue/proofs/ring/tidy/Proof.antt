@@ -18,7 +18,14 @@ store-requires : tie.Need-store-requires Inv-loop μ-loop
 store-requires c κs = omega (arith, c .before .before .loop-test .taken, c .before .before .before .loop .inv .1)
 
 loop-again : tie.Need-loop-again Inv-loop μ-loop
-loop-again c = (c .before .before .before .before .loop .inv .0, c .before .before .before .before .loop .inv .1, slots.fill-turn (c .before .before .before .loop-test .taken) (c .before .before .before .before .loop .inv .1) refl (c .before .before .comment-at .ensures) (c .store .ensures) (c .before .before .before .before .loop .inv .2))
+loop-again c =
+    let in-loop = c .before .before .before in
+    let at-loop = in-loop .before in (
+      at-loop .loop .inv .0,
+      at-loop .loop .inv .1,
+      slots.fill-turn (in-loop .loop-test .taken) (at-loop .loop .inv .1) refl
+          (c .before .before .comment-at .ensures) (c .store .ensures) (at-loop .loop .inv .2),
+    )
 
 returns : tie.Need-returns Inv-loop μ-loop
 returns c = slots.fill-end (c .before .before .before .args .count) (c .before .loop .inv .0) (c .loop-test .left) (c .before .loop .inv .2)

@@ -17,7 +17,9 @@ abbrev μ-loop : tie.MeasureT-loop
 μ-loop out₀ at t i₀ out i = length t - i
 
 loop-again : tie.Need-loop-again Inv-loop μ-loop
-loop-again c = (search needs, search needs, search needs, sym (copy-turn (c .before .before .loop .out) _ _ (c .before .before .loop .i) (c .before .loop-test .taken)) ∙ c .before .before .loop .inv .3)
+loop-again c =
+    let at-loop = c .before .before in
+    (search needs, search needs, search needs, sym (copy-turn (at-loop .loop .out) _ _ (at-loop .loop .i) (c .before .loop-test .taken)) ∙ at-loop .loop .inv .3)
 
 returns : tie.Need-returns Inv-loop μ-loop
 returns c = sym (copy-end _ _ _ _ (c .loop-test .left)) ∙ c .before .loop .inv .3

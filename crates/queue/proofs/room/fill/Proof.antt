@@ -20,7 +20,9 @@ loop-holds : tie.Need-loop-holds Inv-loop μ-loop
 loop-holds c = let q : c .args .at + c .args .n - c .args .at ≡ c .args .n = omega arith in (search needs, search needs, search needs, rw q)
 
 loop-again : tie.Need-loop-again Inv-loop μ-loop
-loop-again c = (search needs, search needs, search needs, sym (fill-turn (c .before .loop .out) (c .before .loop .i) _ _ (c .loop-test .taken)) ∙ c .before .loop .inv .3)
+loop-again c =
+    let at-loop = c .before in
+    (search needs, search needs, search needs, sym (fill-turn (at-loop .loop .out) (at-loop .loop .i) _ _ (c .loop-test .taken)) ∙ at-loop .loop .inv .3)
 
 returns : tie.Need-returns Inv-loop μ-loop
 returns c = sym (fill-end _ _ _ _ (c .loop-test .left)) ∙ c .before .loop .inv .3

@@ -5,7 +5,12 @@ use Rattle.queue.proofs.room.lay.Statement.{statement}
 use Rattle.queue.proofs.room.lay.Tie as tie
 
 returns : tie.Need-returns
-returns c = lay-law (c .before .before .before .before .before .before .before .before .before .before .before .before .before .before .before .before .before .args .out .now) _ _ _ (c .before .before .before .before .before .before .before .before .before .before .before .before .before .before .before .before .before .args .t .now) (c .before .before .before .before .before .before .before .before .before .before .before .before .before .before .before .before .before .args .at) (c .before .before .before .before .before .before .before .before .before .before .before .before .before .before .before .before .before .args .gap) (c .before .before .before .before .before .before .before .before .before .before .before .before .before .fill .ensures) (c .before .before .before .before .before .before .before .before .fill2 .ensures) (c .before .before .copy .ensures)
+returns c =
+    let at-fill2 = c .before .before .before .before .before .before .before .before in
+    let at-fill = at-fill2 .before .before .before .before .before in
+    let start = at-fill .before .before .before .before in
+    lay-law (start .args .out .now) _ _ _ (start .args .t .now) (start .args .at) (start .args .gap) (at-fill .fill .ensures) (at-fill2 .fill2 .ensures)
+    (c .before .before .copy .ensures)
 
 pub lay-spec : {M : Type 1} → statement M
 lay-spec =

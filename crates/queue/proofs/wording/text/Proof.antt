@@ -6,7 +6,10 @@ use Rattle.queue.proofs.wording.text.Statement.{statement}
 use Rattle.queue.proofs.wording.text.Tie as tie
 
 returns-2 : tie.Need-returns-2
-returns-2 c = rw (c .before .before .before .w2 .given .1) (c .part2 .ensures ∙ ap (textOf (c .before .before .before .before .before .before .before .args .literals .now)) (c .before .lit-span .ensures))
+returns-2 c =
+    let at-w2 = c .before .before .before in
+    let start = at-w2 .before .before .before .before in
+    rw (at-w2 .w2 .given .1) (c .part2 .ensures ∙ ap (textOf (start .args .literals .now)) (c .before .lit-span .ensures))
 
 pub text-spec : {M : Type 1} → statement M
 text-spec =

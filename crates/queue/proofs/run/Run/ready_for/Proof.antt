@@ -10,13 +10,29 @@ use Rattle.queue.proofs.run.Run.ready_for.Statement.{statement}
 use Rattle.queue.proofs.run.Run.ready_for.Tie as tie
 
 returns : tie.Need-returns
-returns c = present-stopped _ _ _ (sym (c .before .stopped .ensures) ∙ c .if1 .taken) ∙ ap (presentRun (treeOf (c .before .before .before .before .args .table .now)) (c .before .before .before .before .args .k)) (c .before .before .ready .ensures)
+returns c =
+    let start = c .before .before .before .before in
+    present-stopped _ _ _ (sym (c .before .stopped .ensures) ∙ c .if1 .taken)
+    ∙ ap (presentRun (treeOf (start .args .table .now)) (start .args .k)) (c .before .before .ready .ensures)
 
 returns-2 : tie.Need-returns-2
-returns-2 c = c .refused .ensures ∙ present-missing _ _ _ (goes (c .before .before .before .before .before .before .stopped .ensures) (c .before .before .before .before .before .if1 .left)) (omega (arith, c .before .before .before .before .size .ensures, c .before .if2 .taken)) ∙ ap (presentRun (treeOf (c .before .before .before .before .before .before .before .before .before .args .table .now)) (c .before .before .before .before .before .before .before .before .before .args .k)) (c .before .before .before .before .before .before .before .ready .ensures)
+returns-2 c =
+    let at-size = c .before .before .before .before in
+    let else1 = at-size .before in
+    let at-ready = else1 .before .before in
+    let start = at-ready .before .before in
+    c .refused .ensures
+    ∙ present-missing _ _ _ (goes (else1 .before .stopped .ensures) (else1 .if1 .left)) (omega (arith, at-size .size .ensures, c .before .if2 .taken))
+    ∙ ap (presentRun (treeOf (start .args .table .now)) (start .args .k)) (at-ready .ready .ensures)
 
 returns-3 : tie.Need-returns-3
-returns-3 c = present-there _ _ _ (goes (c .before .before .before .before .before .stopped .ensures) (c .before .before .before .before .if1 .left)) (omega (arith, c .before .before .before .size .ensures, c .if2 .left)) ∙ ap (presentRun (treeOf (c .before .before .before .before .before .before .before .before .args .table .now)) (c .before .before .before .before .before .before .before .before .args .k)) (c .before .before .before .before .before .before .ready .ensures)
+returns-3 c =
+    let at-size = c .before .before .before in
+    let else1 = at-size .before in
+    let at-ready = else1 .before .before in
+    let start = at-ready .before .before in
+    present-there _ _ _ (goes (else1 .before .stopped .ensures) (else1 .if1 .left)) (omega (arith, at-size .size .ensures, c .if2 .left))
+    ∙ ap (presentRun (treeOf (start .args .table .now)) (start .args .k)) (at-ready .ready .ensures)
 
 pub ready-for-spec : {M : Type 1} → statement M
 ready-for-spec =
