@@ -6,7 +6,11 @@ use Rattle.output.proofs.calls.comments.Statement.{statement}
 use Rattle.output.proofs.calls.comments.Tie as tie
 
 returns : tie.Need-returns
-returns c = ran-ready (c .before .before .before .before .before .before .before .before .before .before .args .run) (c .before .before .before .before .ready .ensures) refl (by-comments (c .before .before .before .way-of .ensures) (c .before .before .release-waiting .ensures))
+returns c =
+    let at-way-of = c .before .before .before in
+    let at-ready = at-way-of .before in
+    let start = at-ready .before .before .before .before .before .before in
+    ran-ready (start .args .run) (at-ready .ready .ensures) refl (by-comments (at-way-of .way-of .ensures) (c .before .before .release-waiting .ensures))
 
 pub comments-spec : {M : Type 1} → statement M
 comments-spec =

@@ -7,10 +7,20 @@ use Rattle.output.proofs.calls.finish.Statement.{statement}
 use Rattle.output.proofs.calls.finish.Tie as tie
 
 returns : tie.Need-returns
-returns c = ran-ready (c .before .before .before .before .before .before .before .before .before .before .before .args .run) (c .before .before .before .before .before .ready .ensures) refl (by-stopped (by-finish _) (c .before .before .before .before .release .ensures) (sym (c .before .stopped .ensures) ∙ c .if1 .taken))
+returns c =
+    let at-release = c .before .before .before .before in
+    let at-ready = at-release .before in
+    let start = at-ready .before .before .before .before .before .before in
+    ran-ready (start .args .run) (at-ready .ready .ensures) refl
+    (by-stopped (by-finish _) (at-release .release .ensures) (sym (c .before .stopped .ensures) ∙ c .if1 .taken))
 
 returns-2 : tie.Need-returns-2
-returns-2 c = ran-ready (c .before .before .before .before .before .before .before .before .before .before .before .before .args .run) (c .before .before .before .before .before .before .ready .ensures) refl (by-open (by-finish _) (c .before .before .before .before .before .release .ensures) (goes (c .before .before .stopped .ensures) (c .before .if1 .left)) (rw (c .closed .ensures)))
+returns-2 c =
+    let at-release = c .before .before .before .before .before in
+    let at-ready = at-release .before in
+    let start = at-ready .before .before .before .before .before .before in
+    ran-ready (start .args .run) (at-ready .ready .ensures) refl
+    (by-open (by-finish _) (at-release .release .ensures) (goes (c .before .before .stopped .ensures) (c .before .if1 .left)) (rw (c .closed .ensures)))
 
 pub finish-spec : {M : Type 1} → statement M
 finish-spec =

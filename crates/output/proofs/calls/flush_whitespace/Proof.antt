@@ -6,7 +6,10 @@ use Rattle.output.proofs.calls.flush_whitespace.Statement.{statement}
 use Rattle.output.proofs.calls.flush_whitespace.Tie as tie
 
 returns : tie.Need-returns
-returns c = ran-ready (c .before .before .before .before .before .before .before .before .before .args .run) (c .before .before .before .before .ready .ensures) refl (flush-is (c .before .before .before .before .before .before .before .before .before .args .queue .now) refl (c .before .before .put .ensures))
+returns c =
+    let at-ready = c .before .before .before .before in
+    let start = at-ready .before .before .before .before .before in
+    ran-ready (start .args .run) (at-ready .ready .ensures) refl (flush-is (start .args .queue .now) refl (c .before .before .put .ensures))
 
 pub flush-whitespace-spec : {M : Type 1} → statement M
 flush-whitespace-spec =

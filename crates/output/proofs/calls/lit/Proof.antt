@@ -6,7 +6,11 @@ use Rattle.output.proofs.calls.lit.Statement.{statement}
 use Rattle.output.proofs.calls.lit.Tie as tie
 
 returns : tie.Need-returns
-returns c = ran-ready (c .before .before .before .before .before .before .before .before .before .before .args .run) (c .before .before .before .before .before .ready .ensures) refl (lit-is (c .before .before .before .before .before .before .before .before .before .before .args .queue .now) (c .before .before .before .text .ensures) (c .before .before .put .ensures))
+returns c =
+    let at-text = c .before .before .before in
+    let at-ready = at-text .before .before in
+    let start = at-ready .before .before .before .before .before in
+    ran-ready (start .args .run) (at-ready .ready .ensures) refl (lit-is (start .args .queue .now) (at-text .text .ensures) (c .before .before .put .ensures))
 
 pub lit-spec : {M : Type 1} → statement M
 lit-spec =

@@ -8,10 +8,20 @@ use Rattle.output.proofs.calls.write_owned.Statement.{statement}
 use Rattle.output.proofs.calls.write_owned.Tie as tie
 
 returns : tie.Need-returns
-returns c = ran-present (c .before .before .before .before .before .before .args .run) (c .before .before .ready-for .ensures) refl (acted-stopped (c .before .before .before .before .before .before .args .queue .now) (sym (c .before .stopped .ensures) ∙ c .if1 .taken))
+returns c =
+    let start = c .before .before .before .before .before .before in
+    ran-present (start .args .run) (c .before .before .ready-for .ensures) refl
+    (acted-stopped (start .args .queue .now) (sym (c .before .stopped .ensures) ∙ c .if1 .taken))
 
 returns-2 : tie.Need-returns-2
-returns-2 c = ran-present (c .before .before .before .before .before .before .before .before .before .before .before .before .before .args .run) (c .before .before .before .before .before .before .before .before .before .ready-for .ensures) refl (owned-is (goes (c .before .before .before .before .before .before .before .before .stopped .ensures) (c .before .before .before .before .before .before .before .if1 .left)) (c .before .before .before .due .ensures) (c .before .before .before .before .flushed .ensures) (c .before .before .write-node .ensures))
+returns-2 c =
+    let at-due = c .before .before .before in
+    let at-flushed = at-due .before in
+    let else1 = at-flushed .before .before .before in
+    let at-ready-for = else1 .before .before in
+    let start = at-ready-for .before .before .before .before in
+    ran-present (start .args .run) (at-ready-for .ready-for .ensures) refl
+    (owned-is (goes (else1 .before .stopped .ensures) (else1 .if1 .left)) (at-due .due .ensures) (at-flushed .flushed .ensures) (c .before .before .write-node .ensures))
 
 pub write-owned-spec : {M : Type 1} → statement M
 write-owned-spec =

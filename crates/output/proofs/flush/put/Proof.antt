@@ -12,19 +12,43 @@ returns : tie.Need-returns
 returns c = put-stopped (sym (c .before .stopped .ensures) ∙ c .if1 .taken)
 
 returns-2 : tie.Need-returns-2
-returns-2 c = put-past (c .before .before .before .before .before .before .before .before .args .t .now) (c .before .before .before .before .before .before .before .before .args .run) (c .before .before .before .due .result) (c .before .before .before .due .ensures) (goes (c .before .before .before .before .before .stopped .ensures) (c .before .before .before .before .if1 .left)) (sym (c .before .before .passes .ensures .0) ∙ c .before .if2 .taken) (c .refused .ensures)
+returns-2 c =
+    let at-due = c .before .before .before in
+    let else1 = at-due .before in
+    let start = else1 .before .before .before .before in
+    put-past (start .args .t .now) (start .args .run) (at-due .due .result) (at-due .due .ensures) (goes (else1 .before .stopped .ensures) (else1 .if1 .left))
+    (sym (c .before .before .passes .ensures .0) ∙ c .before .if2 .taken) (c .refused .ensures)
 
 add-moved : tie.Need-add-moved
-add-moved c = omega (arith, c .before .before .before .before .before .before .before .before .passes .ensures .1 (c .before .before .before .before .before .before .before .if2 .left), c .before .before .before .before .before .before .before .before .before .before .before .before .before .before .good)
+add-moved c =
+    let else2 = c .before .before .before .before .before .before .before in
+    let start = else2 .before .before .before .before .before .before .before in
+    omega (arith, else2 .before .passes .ensures .1 (else2 .if2 .left), start .good)
 
 add-moved-2 : tie.Need-add-moved-2
-add-moved-2 c = omega (arith, c .before .before .before .before .before .before .before .before .passes .ensures .1 (c .before .before .before .before .before .before .before .if2 .left), c .before .before .before .before .before .before .before .before .before .before .before .before .before .before .good)
+add-moved-2 c =
+    let else2 = c .before .before .before .before .before .before .before in
+    let start = else2 .before .before .before .before .before .before .before in
+    omega (arith, else2 .before .passes .ensures .1 (else2 .if2 .left), start .good)
 
 add-moved-3 : tie.Need-add-moved-3
-add-moved-3 c = omega (arith, c .before .before .before .before .before .before .before .before .passes .ensures .1 (c .before .before .before .before .before .before .before .if2 .left), c .before .before .before .before .before .before .before .before .before .before .before .before .before .before .good)
+add-moved-3 c =
+    let else2 = c .before .before .before .before .before .before .before in
+    let start = else2 .before .before .before .before .before .before .before in
+    omega (arith, else2 .before .passes .ensures .1 (else2 .if2 .left), start .good)
 
 returns-3 : tie.Need-returns-3
-returns-3 c = put-done (c .before .before .before .before .before .before .before .before .before .before .before .before .before .before .before .args .t .now) (c .before .before .before .before .before .before .before .before .before .before .before .before .before .before .before .args .run) (c .before .before .before .before .before .before .before .before .before .before .due .result) (c .before .before .before .before .before .before .before .before .before .before .due .ensures) (goes (c .before .before .before .before .before .before .before .before .before .before .before .before .stopped .ensures) (c .before .before .before .before .before .before .before .before .before .before .before .if1 .left)) (sym (c .before .before .before .before .before .before .before .before .before .passes .ensures .0) ∙ c .before .before .before .before .before .before .before .before .if2 .left) (c .before .before .flushed .ensures ∙ ap (flushedRun _) (c .before .before .before .answered .ensures ∙ anew _ (goes (c .before .before .before .before .before .before .before .before .before .before .before .before .stopped .ensures) (c .before .before .before .before .before .before .before .before .before .before .before .if1 .left)))) (c .moved .ensures) (c .before .before .before .before .before .before .lay .ensures)
+returns-3 c =
+    let at-answered = c .before .before .before in
+    let at-lay = at-answered .before .before .before in
+    let else2 = at-lay .before .before in
+    let at-due = else2 .before .before in
+    let else1 = at-due .before in
+    let start = else1 .before .before .before .before in
+    put-done (start .args .t .now) (start .args .run) (at-due .due .result) (at-due .due .ensures) (goes (else1 .before .stopped .ensures) (else1 .if1 .left))
+    (sym (else2 .before .passes .ensures .0) ∙ else2 .if2 .left)
+    (c .before .before .flushed .ensures ∙ ap (flushedRun _) (at-answered .answered .ensures ∙ anew _ (goes (else1 .before .stopped .ensures) (else1 .if1 .left))))
+    (c .moved .ensures) (at-lay .lay .ensures)
 
 pub put-spec : {M : Type 1} → statement M
 put-spec =
