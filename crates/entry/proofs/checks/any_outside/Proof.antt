@@ -21,13 +21,35 @@ loop-holds : tie.Need-loop-holds Inv-loop μ-loop
 loop-holds c = (search needs, ap (anyOutside (c .before .args .src .now)) (tab-all _ _ _))
 
 loop-again : tie.Need-loop-again Inv-loop μ-loop
-loop-again c = (omega arith, sym (outside-more _ _ _ _ (ring-next (c .before .before .before .before .before .before .args .queue .now) (c .before .before .before .before .before .before .args .head) (c .before .before .before .before .before .before .args .count) (c .before .before .before .before .loop .i) _ (c .before .before .before .loop-test .taken) (c .before .before .comment-at .ensures)) (sym (c .before .in-source .ensures) ∙ c .if1 .taken)) ∙ c .before .before .before .before .loop .inv .1)
+loop-again c =
+    let in-loop = c .before .before .before in
+    let at-loop = in-loop .before in
+    let start = at-loop .before .before in (
+      omega arith,
+      sym
+          (outside-more _ _ _ _
+          (ring-next (start .args .queue .now) (start .args .head) (start .args .count) (at-loop .loop .i) _ (in-loop .loop-test .taken)
+          (c .before .before .comment-at .ensures))
+          (sym (c .before .in-source .ensures) ∙ c .if1 .taken))
+          ∙ at-loop .loop .inv .1,
+    )
 
 returns : tie.Need-returns Inv-loop μ-loop
-returns c = outside-here _ _ _ _ (ring-next (c .before .before .before .before .before .before .args .queue .now) (c .before .before .before .before .before .before .args .head) (c .before .before .before .before .before .before .args .count) (c .before .before .before .before .loop .i) _ (c .before .before .before .loop-test .taken) (c .before .before .comment-at .ensures)) (sym (c .before .in-source .ensures) ∙ c .if1 .left) ∙ c .before .before .before .before .loop .inv .1
+returns c =
+    let in-loop = c .before .before .before in
+    let at-loop = in-loop .before in
+    let start = at-loop .before .before in
+    outside-here _ _ _ _
+    (ring-next (start .args .queue .now) (start .args .head) (start .args .count) (at-loop .loop .i) _ (in-loop .loop-test .taken)
+    (c .before .before .comment-at .ensures))
+    (sym (c .before .in-source .ensures) ∙ c .if1 .left)
+    ∙ at-loop .loop .inv .1
 
 returns-2 : tie.Need-returns-2 Inv-loop μ-loop
-returns-2 c = ap (anyOutside (c .before .before .before .args .src .now)) (sym (tab-none _ (c .before .before .before .args .head) (c .before .before .before .args .count) (c .before .loop .i) (c .loop-test .left))) ∙ c .before .loop .inv .1
+returns-2 c =
+    let start = c .before .before .before in
+    ap (anyOutside (start .args .src .now)) (sym (tab-none _ (start .args .head) (start .args .count) (c .before .loop .i) (c .loop-test .left)))
+    ∙ c .before .loop .inv .1
 
 pub any-outside-spec : {M : Type 1} → statement M
 any-outside-spec =

@@ -10,19 +10,55 @@ returns : tie.Need-returns
 returns c = lent-stopped _ _ _ _ (sym (c .before .stopped .ensures) ∙ c .if1 .taken)
 
 returns-2 : tie.Need-returns-2
-returns-2 c = c .refused .ensures ∙ lent-past (c .before .before .before .before .before .before .args .src .now) (c .before .before .before .before .before .before .args .queue .now) (c .before .before .before .before .before .before .args .cap) (c .before .before .before .before .before .before .args .run) (goes (c .before .before .before .before .stopped .ensures) (c .before .before .before .if1 .left)) (c .before .if2 .taken)
+returns-2 c =
+    let else1 = c .before .before .before in
+    let start = else1 .before .before .before in
+    c .refused .ensures
+    ∙ lent-past (start .args .src .now) (start .args .queue .now) (start .args .cap) (start .args .run)
+    (goes (else1 .before .stopped .ensures) (else1 .if1 .left)) (c .before .if2 .taken)
 
 returns-3 : tie.Need-returns-3
-returns-3 c = c .refused2 .ensures ∙ lent-many (c .before .before .before .before .before .before .before .before .args .src .now) (c .before .before .before .before .before .before .before .before .args .queue .now) (c .before .before .before .before .before .before .before .before .args .cap) (c .before .before .before .before .before .before .before .before .args .run) (goes (c .before .before .before .before .before .before .stopped .ensures) (c .before .before .before .before .before .if1 .left)) (c .before .before .before .if2 .left) (c .before .if3 .taken)
+returns-3 c =
+    let else2 = c .before .before .before in
+    let else1 = else2 .before .before in
+    let start = else1 .before .before .before in
+    c .refused2 .ensures
+    ∙ lent-many (start .args .src .now) (start .args .queue .now) (start .args .cap) (start .args .run)
+    (goes (else1 .before .stopped .ensures) (else1 .if1 .left)) (else2 .if2 .left) (c .before .if3 .taken)
 
 returns-4 : tie.Need-returns-4
-returns-4 c = c .refused3 .ensures ∙ lent-outside (c .before .before .before .before .before .before .before .before .before .before .args .src .now) (c .before .before .before .before .before .before .before .before .before .before .args .queue .now) (c .before .before .before .before .before .before .before .before .before .before .args .cap) (c .before .before .before .before .before .before .before .before .before .before .args .run) (goes (c .before .before .before .before .before .before .before .before .stopped .ensures) (c .before .before .before .before .before .before .before .if1 .left)) (c .before .before .before .before .before .if2 .left) (c .before .before .before .if3 .left) (c .before .before .any-outside .ensures) (c .before .if4 .taken)
+returns-4 c =
+    let else3 = c .before .before .before in
+    let else2 = else3 .before .before in
+    let else1 = else2 .before .before in
+    let start = else1 .before .before .before in
+    c .refused3 .ensures
+    ∙ lent-outside (start .args .src .now) (start .args .queue .now) (start .args .cap) (start .args .run)
+    (goes (else1 .before .stopped .ensures) (else1 .if1 .left)) (else2 .if2 .left) (else3 .if3 .left) (c .before .before .any-outside .ensures)
+    (c .before .if4 .taken)
 
 returns-5 : tie.Need-returns-5
-returns-5 c = c .refused4 .ensures ∙ lent-deep (c .before .before .before .before .before .before .before .before .before .before .before .before .args .src .now) (c .before .before .before .before .before .before .before .before .before .before .before .before .args .queue .now) (c .before .before .before .before .before .before .before .before .before .before .before .before .args .cap) (c .before .before .before .before .before .before .before .before .before .before .before .before .args .run) (goes (c .before .before .before .before .before .before .before .before .before .before .stopped .ensures) (c .before .before .before .before .before .before .before .before .before .if1 .left)) (c .before .before .before .before .before .before .before .if2 .left) (c .before .before .before .before .before .if3 .left) (c .before .before .before .before .any-outside .ensures) (c .before .before .before .if4 .left) (c .before .if5 .taken)
+returns-5 c =
+    let else4 = c .before .before .before in
+    let else3 = else4 .before .before in
+    let else2 = else3 .before .before in
+    let else1 = else2 .before .before in
+    let start = else1 .before .before .before in
+    c .refused4 .ensures
+    ∙ lent-deep (start .args .src .now) (start .args .queue .now) (start .args .cap) (start .args .run)
+    (goes (else1 .before .stopped .ensures) (else1 .if1 .left)) (else2 .if2 .left) (else3 .if3 .left) (else4 .before .any-outside .ensures)
+    (else4 .if4 .left) (c .before .if5 .taken)
 
 returns-6 : tie.Need-returns-6
-returns-6 c = lent-good (c .before .before .before .before .before .before .before .before .before .before .before .args .src .now) (c .before .before .before .before .before .before .before .before .before .before .before .args .queue .now) (c .before .before .before .before .before .before .before .before .before .before .before .args .cap) (c .before .before .before .before .before .before .before .before .before .before .before .args .run) (goes (c .before .before .before .before .before .before .before .before .before .stopped .ensures) (c .before .before .before .before .before .before .before .before .if1 .left)) (c .before .before .before .before .before .before .if2 .left) (c .before .before .before .before .if3 .left) (c .before .before .before .any-outside .ensures) (c .before .before .if4 .left) (c .if5 .left)
+returns-6 c =
+    let else4 = c .before .before in
+    let else3 = else4 .before .before in
+    let else2 = else3 .before .before in
+    let else1 = else2 .before .before in
+    let start = else1 .before .before .before in
+    lent-good (start .args .src .now) (start .args .queue .now) (start .args .cap) (start .args .run)
+    (goes (else1 .before .stopped .ensures) (else1 .if1 .left)) (else2 .if2 .left) (else3 .if3 .left) (else4 .before .any-outside .ensures) (else4 .if4 .left)
+    (c .if5 .left)
 
 pub lent-spec : {M : Type 1} → statement M
 lent-spec =

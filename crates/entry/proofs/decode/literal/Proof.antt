@@ -15,19 +15,33 @@ returns-4 : tie.Need-returns-4
 returns-4 c = let e : c .before .before .before .before .args .b ≡ 3 = omega arith in rw e
 
 returns-5 : tie.Need-returns-5
-returns-5 c = let e : c .before .before .before .before .before .args .b ≡ 4 = omega arith in rw e
+returns-5 c =
+    let start = c .before .before .before .before .before in
+    let e : start .args .b ≡ 4 = omega arith in
+    rw e
 
 returns-6 : tie.Need-returns-6
-returns-6 c = let e : c .before .before .before .before .before .before .args .b ≡ 5 = omega arith in rw e
+returns-6 c =
+    let start = c .before .before .before .before .before .before in
+    let e : start .args .b ≡ 5 = omega arith in
+    rw e
 
 returns-7 : tie.Need-returns-7
-returns-7 c = let e : c .before .before .before .before .before .before .before .args .b ≡ 6 = omega arith in rw e
+returns-7 c =
+    let start = c .before .before .before .before .before .before .before in
+    let e : start .args .b ≡ 6 = omega arith in
+    rw e
 
 returns-8 : tie.Need-returns-8
-returns-8 c = let e : c .before .before .before .before .before .before .before .before .args .b ≡ 7 = omega arith in rw e
+returns-8 c =
+    let start = c .before .before .before .before .before .before .before .before in
+    let e : start .args .b ≡ 7 = omega arith in
+    rw e
 
 returns-9 : tie.Need-returns-9
-returns-9 c = at-none (map Lit literals) (c .before .before .before .before .before .before .before .before .args .b) (omega arith)
+returns-9 c =
+    let start = c .before .before .before .before .before .before .before .before in
+    at-none (map Lit literals) (start .args .b) (omega arith)
 
 pub literal-spec : {M : Type 1} → statement M
 literal-spec =

@@ -6,7 +6,11 @@ use Rattle.entry.proofs.decode.number.Statement.{statement}
 use Rattle.entry.proofs.decode.number.Tie as tie
 
 returns : tie.Need-returns
-returns c = omega (arith, four-at (c .before .before .before .before .before .before .before .before .before .args .bytes .now), c .before .before .before .before .before .before .wide .ensures .0, c .before .before .before .before .wide2 .ensures .0, c .before .before .wide3 .ensures .0, c .wide4 .ensures .0)
+returns c =
+    let at-wide2 = c .before .before .before .before in
+    let at-wide = at-wide2 .before .before in
+    let start = at-wide .before .before .before in
+    omega (arith, four-at (start .args .bytes .now), at-wide .wide .ensures .0, at-wide2 .wide2 .ensures .0, c .before .before .wide3 .ensures .0, c .wide4 .ensures .0)
 
 pub number-spec : {M : Type 1} → statement M
 number-spec =

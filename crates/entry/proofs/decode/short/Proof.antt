@@ -22,7 +22,10 @@ unfolding by-record.decode
 returns-4 c = rw (c .if4 .taken)
 
 returns-6 : tie.Need-returns-6
-returns-6 c = short-none _ _ (c .before .before .before .before .if1 .left) (c .before .before .before .if2 .left) (c .before .before .if3 .left) (c .before .if4 .left) (c .if5 .left)
+returns-6 c =
+    let else2 = c .before .before .before in
+    let else1 = else2 .before in
+    short-none _ _ (else1 .if1 .left) (else2 .if2 .left) (c .before .before .if3 .left) (c .before .if4 .left) (c .if5 .left)
 
 pub short-spec : {M : Type 1} → statement M
 short-spec =

@@ -12,7 +12,17 @@ same-length : tie.Need-same-length
 same-length c = keeps (c .before .before .before .before .make-call .ensures)
 
 returns : tie.Need-returns
-returns c = serve-call (c .before .before .before .before .before .before .before .before .before .before .before .before .before .before .before .before .before .before .before .before .before .args .source .now) (c .before .before .before .before .before .before .before .before .before .before .before .before .before .before .before .before .before .before .before .before .before .args .tree .now) (replicate 32768 0) _ (c .before .before .before .before .before .before .before .before .before .before .before .before .before .before .before .before .decode .result) (c .before .before .before .before .before .before .before .before .before .before .before .before .before .before .before .before .decode .ensures) (length-replicate {A = ℕ} 32768 0) (c .before .before .before .before .before .before .before .before .before .before .before .before .before .before .before .before .before .before .before .before .before .args .s) (c .before .before .before .before .before .before .before .before .before .before .before .before .before .before .before .before .before .before .before .before .before .args .out .now) (c .before .before .before .before .before .before .before .before .before .before .before .opening .ensures) (c .before .before .before .before .before .before .before .before .before .before .started .ensures) (c .before .before .before .before .before .before .before .before .before .lent .ensures) (c .before .before .before .before .before .before .before .first .ensures) (c .before .before .before .before .make-call .ensures) (c .left .ensures)
+returns c =
+    let at-make-call = c .before .before .before .before in
+    let at-first = at-make-call .before .before .before in
+    let at-lent = at-first .before .before in
+    let at-started = at-lent .before in
+    let at-opening = at-started .before in
+    let at-decode = at-opening .before .before .before .before .before in
+    let start = at-decode .before .before .before .before .before in
+    serve-call (start .args .source .now) (start .args .tree .now) (replicate 32768 0) _ (at-decode .decode .result) (at-decode .decode .ensures)
+    (length-replicate {A = ℕ} 32768 0) (start .args .s) (start .args .out .now) (at-opening .opening .ensures) (at-started .started .ensures)
+    (at-lent .lent .ensures) (at-first .first .ensures) (at-make-call .make-call .ensures) (c .left .ensures)
 
 pub call-spec : {M : Type 1} → statement M
 call-spec =

@@ -12,7 +12,18 @@ same-length : tie.Need-same-length
 same-length c = keeps (c .before .before .before .before .asked .ensures .ran)
 
 returns : tie.Need-returns
-returns c = serve-record (c .before .before .before .before .before .before .before .before .before .before .before .before .before .before .before .before .before .before .before .before .before .before .before .args .source .now) (c .before .before .before .before .before .before .before .before .before .before .before .before .before .before .before .before .before .before .before .before .before .before .before .args .tree .now) (replicate 32768 0) _ (c .before .before .before .before .before .before .before .before .before .before .before .before .before .before .before .before .before .decode .result) (c .before .before .before .before .before .before .before .before .before .before .before .before .before .before .before .before .before .decode .ensures) (length-replicate {A = ℕ} 32768 0) (c .before .before .before .before .before .before .before .before .before .before .before .before .before .before .before .before .before .before .before .before .before .before .before .args .s) (c .before .before .before .before .before .before .before .before .before .before .before .before .before .before .before .before .before .before .before .before .before .before .before .args .out .now) (c .before .before .before .before .before .before .before .before .before .before .before .before .opening .ensures) (c .before .before .before .before .before .before .before .before .before .before .before .started .ensures) (c .before .before .before .before .before .before .before .before .before .before .lent .ensures) (c .before .before .before .before .before .before .before .first .ensures) (c .before .before .before .before .before .before .before .before .before .before .before .before .before .before .before .before .before .before .before .before .before .before .before .args .bytes .now) (c .before .before .before .before .before .before .before .before .before .decode2 .ensures) (c .before .before .before .before .asked .ensures) (c .left .ensures)
+returns c =
+    let at-asked = c .before .before .before .before in
+    let at-first = at-asked .before .before .before in
+    let at-decode2 = at-first .before .before in
+    let at-lent = at-decode2 .before in
+    let at-started = at-lent .before in
+    let at-opening = at-started .before in
+    let at-decode = at-opening .before .before .before .before .before in
+    let start = at-decode .before .before .before .before .before .before in
+    serve-record (start .args .source .now) (start .args .tree .now) (replicate 32768 0) _ (at-decode .decode .result) (at-decode .decode .ensures)
+    (length-replicate {A = ℕ} 32768 0) (start .args .s) (start .args .out .now) (at-opening .opening .ensures) (at-started .started .ensures)
+    (at-lent .lent .ensures) (at-first .first .ensures) (start .args .bytes .now) (at-decode2 .decode2 .ensures) (at-asked .asked .ensures) (c .left .ensures)
 
 pub record-spec : {M : Type 1} → statement M
 record-spec =

@@ -7,10 +7,15 @@ use Rattle.entry.proofs.state.left.Statement.{statement}
 use Rattle.entry.proofs.state.left.Tie as tie
 
 returns : tie.Need-returns
-returns c = left-stopped (c .before .before .args .s) (c .before .before .args .r) (c .before .before .args .queue .now) (sym (c .before .stopped .ensures) ∙ c .if1 .taken)
+returns c =
+    let start = c .before .before in
+    left-stopped (start .args .s) (start .args .r) (start .args .queue .now) (sym (c .before .stopped .ensures) ∙ c .if1 .taken)
 
 returns-2 : tie.Need-returns-2
-returns-2 c = left-open (c .before .before .before .args .s) (c .before .before .before .args .r) (c .before .before .before .args .queue .now) _ (goes (c .before .before .stopped .ensures) (c .before .if1 .left)) (c .tidy .ensures)
+returns-2 c =
+    let start = c .before .before .before in
+    left-open (start .args .s) (start .args .r) (start .args .queue .now) _ (goes (c .before .before .stopped .ensures) (c .before .if1 .left))
+    (c .tidy .ensures)
 
 pub left-spec : {M : Type 1} → statement M
 left-spec =
