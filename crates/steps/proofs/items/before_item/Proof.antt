@@ -7,10 +7,14 @@ use Rattle.steps.proofs.items.before_item.Statement.{statement}
 use Rattle.steps.proofs.items.before_item.Tie as tie
 
 same-length : tie.Need-same-length
-same-length c = chain.keeps (c .before .before .separate .ensures) ∙ chain.keeps (c .before .before .before .before .before .before .before .comments .ensures)
+same-length c =
+    let at-comments = c .before .before .before .before .before .before .before in
+    chain.keeps (c .before .before .separate .ensures) ∙ chain.keeps (at-comments .comments .ensures)
 
 returns : tie.Need-returns
-returns c = chain._▹_ (c .before .before .before .before .before .before .before .comments .ensures) (c .before .before .separate .ensures)
+returns c =
+    let at-comments = c .before .before .before .before .before .before .before in
+    chain._▹_ (at-comments .comments .ensures) (c .before .before .separate .ensures)
 
 pub before-item-spec : {M : Type 1} → statement M
 before-item-spec =

@@ -8,7 +8,12 @@ use Rattle.steps.proofs.items.behind_item.Statement.{statement}
 use Rattle.steps.proofs.items.behind_item.Tie as tie
 
 returns : tie.Need-returns
-returns c = step-on (c .before .before .before .before .before .before .before .before .before .before .before .args .queue .now) (c .before .before .before .before .before .before .before .before .before .before .before .args .out .now) (c .before .before .before .before .before .before .before .rest-of .ensures) ▹ counts (treeOf (c .before .before .before .before .before .before .before .before .before .before .before .args .table .now)) suffix (c .before .before .before .before .before .before .before .rest-of .result) (c .before .before .before .comments .ensures) (c .one-more .ensures)
+returns c =
+    let at-comments = c .before .before .before in
+    let at-rest-of = at-comments .before .before .before .before in
+    let start = at-rest-of .before .before .before .before in
+    step-on (start .args .queue .now) (start .args .out .now) (at-rest-of .rest-of .ensures)
+    ▹ counts (treeOf (start .args .table .now)) suffix (at-rest-of .rest-of .result) (at-comments .comments .ensures) (c .one-more .ensures)
 
 pub behind-item-spec : {M : Type 1} → statement M
 behind-item-spec =

@@ -8,7 +8,12 @@ use Rattle.steps.proofs.items.behind_line.Statement.{statement}
 use Rattle.steps.proofs.items.behind_line.Tie as tie
 
 returns : tie.Need-returns
-returns c = step-on (c .before .before .before .before .before .before .before .before .before .before .before .args .queue .now) (c .before .before .before .before .before .before .before .before .before .before .before .args .out .now) (c .before .before .before .before .before .before .before .rest-of .ensures) ▹ counts (treeOf (c .before .before .before .before .before .before .before .before .before .before .before .args .table .now)) fmt (c .before .before .before .before .before .before .before .rest-of .result) (c .before .before .before .fmt .ensures) (c .one-more .ensures)
+returns c =
+    let at-fmt = c .before .before .before in
+    let at-rest-of = at-fmt .before .before .before .before in
+    let start = at-rest-of .before .before .before .before in
+    step-on (start .args .queue .now) (start .args .out .now) (at-rest-of .rest-of .ensures)
+    ▹ counts (treeOf (start .args .table .now)) fmt (at-rest-of .rest-of .result) (at-fmt .fmt .ensures) (c .one-more .ensures)
 
 pub behind-line-spec : {M : Type 1} → statement M
 behind-line-spec =

@@ -7,10 +7,18 @@ use Rattle.steps.proofs.items.close.Statement.{statement}
 use Rattle.steps.proofs.items.close.Tie as tie
 
 returns : tie.Need-returns
-returns c = closed-yes (treeOf (c .before .before .before .before .before .before .before .before .before .before .before .args .table .now)) (c .before .before .before .before .before .before .before .before .before .before .before .args .s) (c .before .before .before .before .pass .ensures) (c .before .says .ensures) (c .if1 .taken)
+returns c =
+    let at-pass = c .before .before .before .before in
+    let start = at-pass .before .before .before .before .before .before .before in
+    closed-yes (treeOf (start .args .table .now)) (start .args .s) (at-pass .pass .ensures) (c .before .says .ensures) (c .if1 .taken)
 
 returns-2 : tie.Need-returns-2
-returns-2 c = closed-no (treeOf (c .before .before .before .before .before .before .before .before .before .before .before .before .before .before .before .before .args .table .now)) (c .before .before .before .before .before .before .before .before .before .before .before .before .before .before .before .before .args .s) (c .before .before .before .before .before .before .before .before .before .pass .ensures) (c .before .before .before .before .before .before .says .ensures) (c .before .before .before .before .before .if1 .left) (c .before .before .comments .ensures)
+returns-2 c =
+    let else1 = c .before .before .before .before .before in
+    let at-pass = else1 .before .before .before .before in
+    let start = at-pass .before .before .before .before .before .before .before in
+    closed-no (treeOf (start .args .table .now)) (start .args .s) (at-pass .pass .ensures) (else1 .before .says .ensures) (else1 .if1 .left)
+    (c .before .before .comments .ensures)
 
 pub close-spec : {M : Type 1} → statement M
 close-spec =

@@ -6,7 +6,9 @@ use Rattle.steps.proofs.items.rest_of.Statement.{statement}
 use Rattle.steps.proofs.items.rest_of.Tie as tie
 
 returns : tie.Need-returns
-returns c = settled (treeOf (c .before .before .before .before .args .table .now)) (c .before .before .before .before .args .s) (c .before .before .take-remaining .ensures)
+returns c =
+    let start = c .before .before .before .before in
+    settled (treeOf (start .args .table .now)) (start .args .s) (c .before .before .take-remaining .ensures)
 
 pub rest-of-spec : {M : Type 1} → statement M
 rest-of-spec =

@@ -9,16 +9,25 @@ use Rattle.steps.proofs.items.separate.Statement.{statement}
 use Rattle.steps.proofs.items.separate.Tie as tie
 
 same-length : tie.Need-same-length
-same-length c = chain.keeps (c .before .before .ws .ensures) ∙ chain.keeps (c .before .before .before .before .before .before .before .before .before .fmt .ensures)
+same-length c =
+    let at-fmt = c .before .before .before .before .before .before .before .before .before in
+    chain.keeps (c .before .before .ws .ensures) ∙ chain.keeps (at-fmt .fmt .ensures)
 
 returns : tie.Need-returns
-returns c = separated-yes (c .before .before .before .before .before .before .before .before .before .before .before .before .before .before .before .args .comma) (c .before .before .before .before .before .before .before .before .before .fmt .ensures) (c .before .before .before .before .before .before .says .ensures) (c .before .before .before .before .before .if1 .taken) (c .before .before .ws .ensures)
+returns c =
+    let then1 = c .before .before .before .before .before in
+    let at-fmt = then1 .before .before .before .before in
+    let start = at-fmt .before .before .before .before .before .before in
+    separated-yes (start .args .comma) (at-fmt .fmt .ensures) (then1 .before .says .ensures) (then1 .if1 .taken) (c .before .before .ws .ensures)
 
 same-length-2 : tie.Need-same-length-2
 same-length-2 c = chain.keeps (c .before .before .before .before .fmt .ensures)
 
 returns-2 : tie.Need-returns-2
-returns-2 c = separated-no (c .before .before .before .before .before .before .before .before .before .before .args .comma) (c .before .before .before .before .fmt .ensures) (c .before .says .ensures) (c .if1 .left)
+returns-2 c =
+    let at-fmt = c .before .before .before .before in
+    let start = at-fmt .before .before .before .before .before .before in
+    separated-no (start .args .comma) (at-fmt .fmt .ensures) (c .before .says .ensures) (c .if1 .left)
 
 pub separate-spec : {M : Type 1} → statement M
 separate-spec =

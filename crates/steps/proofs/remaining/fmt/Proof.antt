@@ -19,14 +19,20 @@ same-length c = chain.keeps (c .before .before .lit .ensures)
 
 returns-2 : tie.Need-returns-2
 unfolding fmt
-returns-2 c = ran-as (ap (λ (l : Literal). make (Lit l)) (c .before .before .before .literal-of .ensures) ∙ ap fmt (sym (c .before .before .before .before .before .before .before .token .given .1))) (c .before .before .lit .ensures)
+returns-2 c =
+    let at-literal-of = c .before .before .before in
+    let at-token = at-literal-of .before .before .before .before in
+    ran-as (ap (λ (l : Literal). make (Lit l)) (at-literal-of .literal-of .ensures) ∙ ap fmt (sym (at-token .token .given .1)))
+    (c .before .before .lit .ensures)
 
 same-length-2 : tie.Need-same-length-2
 same-length-2 c = chain.keeps (c .before .before .write-owned .ensures)
 
 returns-3 : tie.Need-returns-3
 unfolding fmt
-returns-3 c = ran-as (ap fmt (sym (c .before .before .before .before .before .before .token2 .given .1))) (c .before .before .write-owned .ensures)
+returns-3 c =
+    let at-token2 = c .before .before .before .before .before .before in
+    ran-as (ap fmt (sym (at-token2 .token2 .given .1))) (c .before .before .write-owned .ensures)
 
 pub fmt-spec : {M : Type 1} → statement M
 fmt-spec =

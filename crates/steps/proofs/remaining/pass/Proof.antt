@@ -20,7 +20,9 @@ same-length c = chain.keeps (c .before .before .ignore .ensures)
 
 returns-3 : tie.Need-returns-3
 unfolding ignore
-returns-3 c = ran-as (ap ignore (sym (c .before .before .before .before .before .before .token .given .1))) (c .before .before .ignore .ensures)
+returns-3 c =
+    let at-token = c .before .before .before .before .before .before in
+    ran-as (ap ignore (sym (at-token .token .given .1))) (c .before .before .ignore .ensures)
 
 pub pass-spec : {M : Type 1} → statement M
 pass-spec =

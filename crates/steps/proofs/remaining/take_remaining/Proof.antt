@@ -7,10 +7,23 @@ use Rattle.steps.proofs.remaining.take_remaining.Statement.{statement}
 use Rattle.steps.proofs.remaining.take_remaining.Tie as tie
 
 returns : tie.Need-returns
-returns c = rests-at (treeOf (c .before .before .before .before .before .before .before .before .args .table .now)) (c .before .before .before .before .before .before .before .before .args .mark) (streamOf (treeOf (c .before .before .before .before .before .before .before .before .args .table .now)) (c .before .before .before .before .before .before .before .before .args .p)) (mark-ate (treeOf (c .before .before .before .before .before .before .before .before .args .table .now)) (c .before .before .before .before .before .before .before .before .args .mark) (streamOf (treeOf (c .before .before .before .before .before .before .before .before .args .table .now)) (c .before .before .before .before .before .before .before .before .args .p)) (c .before .before .before .before .before .before .byte-of .ensures) (c .before .before .before .before .before .eat .ensures)) (c .before .before .found .given .1) (c .once .ensures)
+returns c =
+    let at-eat = c .before .before .before .before .before in
+    let at-byte-of = at-eat .before in
+    let start = at-byte-of .before .before in
+    let rs = treeOf (start .args .table .now) in
+    rests-at rs (start .args .mark) (streamOf rs (start .args .p))
+    (mark-ate rs (start .args .mark) (streamOf rs (start .args .p)) (at-byte-of .byte-of .ensures) (at-eat .eat .ensures))
+    (c .before .before .found .given .1) (c .once .ensures)
 
 returns-2 : tie.Need-returns-2
-returns-2 c = rests-none (treeOf (c .before .before .before .before .before .before .args .table .now)) (c .before .before .before .before .before .before .args .mark) (streamOf (treeOf (c .before .before .before .before .before .before .args .table .now)) (c .before .before .before .before .before .before .args .p)) (mark-ate (treeOf (c .before .before .before .before .before .before .args .table .now)) (c .before .before .before .before .before .before .args .mark) (streamOf (treeOf (c .before .before .before .before .before .before .args .table .now)) (c .before .before .before .before .before .before .args .p)) (c .before .before .before .before .byte-of .ensures) (c .before .before .before .eat .ensures)) (c .enum-told .given .1)
+returns-2 c =
+    let at-eat = c .before .before .before in
+    let at-byte-of = at-eat .before in
+    let start = at-byte-of .before .before in
+    let rs = treeOf (start .args .table .now) in
+    rests-none rs (start .args .mark) (streamOf rs (start .args .p))
+    (mark-ate rs (start .args .mark) (streamOf rs (start .args .p)) (at-byte-of .byte-of .ensures) (at-eat .eat .ensures)) (c .enum-told .given .1)
 
 pub take-remaining-spec : {M : Type 1} → statement M
 take-remaining-spec =

@@ -6,13 +6,23 @@ use Rattle.steps.proofs.remaining.write_if.Statement.{statement}
 use Rattle.steps.proofs.remaining.write_if.Tie as tie
 
 returns : tie.Need-returns
-returns c = write-needed (c .before .before .before .before .before .before .before .before .before .args .needed) (c .before .before .before .before .before .before .before .before .before .args .token) (c .before .before .before .before .before .if1 .taken) (c .before .before .fmt .ensures)
+returns c =
+    let then1 = c .before .before .before .before .before in
+    let start = then1 .before .before .before .before in
+    write-needed (start .args .needed) (start .args .token) (then1 .if1 .taken) (c .before .before .fmt .ensures)
 
 returns-2 : tie.Need-returns-2
-returns-2 c = write-there (c .before .before .before .before .before .before .before .before .before .before .before .args .needed) (c .before .before .before .before .before .before .before .before .before .before .before .args .token) (c .before .before .before .before .before .before .before .if1 .left) (c .before .before .before .before .before .before .is-present .ensures) (c .before .before .before .before .before .if2 .taken) (c .before .before .fmt2 .ensures)
+returns-2 c =
+    let then2 = c .before .before .before .before .before in
+    let else1 = then2 .before .before in
+    let start = else1 .before .before .before .before in
+    write-there (start .args .needed) (start .args .token) (else1 .if1 .left) (then2 .before .is-present .ensures) (then2 .if2 .taken)
+    (c .before .before .fmt2 .ensures)
 
 returns-3 : tie.Need-returns-3
-returns-3 c = write-not (c .before .before .before .before .before .before .args .needed) (c .before .before .before .before .before .before .args .token) (c .before .before .if1 .left) (c .before .is-present .ensures) (c .if2 .left)
+returns-3 c =
+    let start = c .before .before .before .before .before .before in
+    write-not (start .args .needed) (start .args .token) (c .before .before .if1 .left) (c .before .is-present .ensures) (c .if2 .left)
 
 pub write-if-spec : {M : Type 1} → statement M
 write-if-spec =

@@ -6,10 +6,16 @@ use Rattle.steps.proofs.remaining.write_only_if.Statement.{statement}
 use Rattle.steps.proofs.remaining.write_only_if.Tie as tie
 
 returns : tie.Need-returns
-returns c = only-yes (c .before .before .before .before .before .before .before .before .before .args .wanted) (c .before .before .before .before .before .before .before .before .before .args .token) (c .before .before .before .before .before .if1 .taken) (c .before .before .fmt .ensures)
+returns c =
+    let then1 = c .before .before .before .before .before in
+    let start = then1 .before .before .before .before in
+    only-yes (start .args .wanted) (start .args .token) (then1 .if1 .taken) (c .before .before .fmt .ensures)
 
 returns-2 : tie.Need-returns-2
-returns-2 c = only-no (c .before .before .before .before .before .before .before .before .before .args .wanted) (c .before .before .before .before .before .before .before .before .before .args .token) (c .before .before .before .before .before .if1 .left) (c .before .before .pass .ensures)
+returns-2 c =
+    let else1 = c .before .before .before .before .before in
+    let start = else1 .before .before .before .before in
+    only-no (start .args .wanted) (start .args .token) (else1 .if1 .left) (c .before .before .pass .ensures)
 
 pub write-only-if-spec : {M : Type 1} → statement M
 write-only-if-spec =

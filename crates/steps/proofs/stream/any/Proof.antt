@@ -8,7 +8,9 @@ use Rattle.steps.proofs.stream.any.Tie as tie
 
 returns : tie.Need-returns
 unfolding pump
-returns c = stepped takeAny write notMet (c .before .before .before .before .before .before .take-any .ensures .found) (c .before .before .before .before .before .before .take-any .ensures .rest) (c .before .before .write-found .ensures)
+returns c =
+    let at-take-any = c .before .before .before .before .before .before in
+    stepped takeAny write notMet (at-take-any .take-any .ensures .found) (at-take-any .take-any .ensures .rest) (c .before .before .write-found .ensures)
 
 pub any-spec : {M : Type 1} → statement M
 any-spec =

@@ -6,7 +6,9 @@ use Rattle.steps.proofs.stream.is_kind.Statement.{statement}
 use Rattle.steps.proofs.stream.is_kind.Tie as tie
 
 returns : tie.Need-returns
-returns c = kind-is (treeOf (c .before .before .before .args .table .now)) (c .before .before .before .args .kind) (c .before .before .before .args .k .0) (c .before .node .ensures)
+returns c =
+    let start = c .before .before .before in
+    kind-is (treeOf (start .args .table .now)) (start .args .kind) (start .args .k .0) (c .before .node .ensures)
 
 pub is-kind-spec : {M : Type 1} → statement M
 is-kind-spec =

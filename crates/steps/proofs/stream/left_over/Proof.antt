@@ -7,7 +7,10 @@ use Rattle.steps.proofs.stream.left_over.Statement.{statement}
 use Rattle.steps.proofs.stream.left_over.Tie as tie
 
 returns : tie.Need-returns
-returns c = sticks-as (left-over-at _ (c .before .before .before .before .before .before .args .p) (c .before .before .before .before .peek .ensures) (c .before .before .found .given .1)) (c .refuse .ensures)
+returns c =
+    let at-peek = c .before .before .before .before in
+    let start = at-peek .before .before in
+    sticks-as (left-over-at _ (start .args .p) (at-peek .peek .ensures) (c .before .before .found .given .1)) (c .refuse .ensures)
 
 returns-2 : tie.Need-returns-2
 returns-2 c = sticks-as (left-over-none _ (c .before .before .before .before .args .p) (c .before .before .peek .ensures) (c .enum-told .given .1)) sticks-still

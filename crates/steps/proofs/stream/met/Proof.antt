@@ -5,10 +5,16 @@ use Rattle.steps.proofs.stream.met.Statement.{statement}
 use Rattle.steps.proofs.stream.met.Tie as tie
 
 returns : tie.Need-returns
-returns c = met-at _ (c .before .before .before .before .before .args .p) (c .before .before .before .peek .ensures) (c .before .found .given .1)
+returns c =
+    let at-peek = c .before .before .before in
+    let start = at-peek .before .before in
+    met-at _ (start .args .p) (at-peek .peek .ensures) (c .before .found .given .1)
 
 returns-2 : tie.Need-returns-2
-returns-2 c = met-none _ (c .before .before .before .before .before .args .p) (c .before .before .before .peek .ensures) (c .before .enum-told .given .1)
+returns-2 c =
+    let at-peek = c .before .before .before in
+    let start = at-peek .before .before in
+    met-none _ (start .args .p) (at-peek .peek .ensures) (c .before .enum-told .given .1)
 
 pub met-spec : {M : Type 1} → statement M
 met-spec =

@@ -5,7 +5,10 @@ use Rattle.steps.proofs.stream.next_is.Statement.{statement}
 use Rattle.steps.proofs.stream.next_is.Tie as tie
 
 returns : tie.Need-returns
-returns c = next-at _ (c .before .before .before .before .before .before .args .p) (c .before .before .before .before .peek .ensures) _ (c .before .before .found .given .1) (c .is-kind .ensures)
+returns c =
+    let at-peek = c .before .before .before .before in
+    let start = at-peek .before .before in
+    next-at _ (start .args .p) (at-peek .peek .ensures) _ (c .before .before .found .given .1) (c .is-kind .ensures)
 
 returns-2 : tie.Need-returns-2
 returns-2 c = next-none _ (c .before .before .before .before .args .p) (c .before .before .peek .ensures) _ (c .enum-told .given .1)

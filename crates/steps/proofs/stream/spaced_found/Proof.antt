@@ -8,7 +8,10 @@ use Rattle.steps.proofs.stream.spaced_found.Statement.{statement}
 use Rattle.steps.proofs.stream.spaced_found.Tie as tie
 
 returns : tie.Need-returns
-returns c = found-at spaced nothing (c .before .before .before .before .before .before .before .before .before .before .before .found .given .1) (chain._▹_ (c .before .before .before .before .before .before .before .ws .ensures) (c .before .before .write-owned .ensures))
+returns c =
+    let at-ws = c .before .before .before .before .before .before .before in
+    let at-found = at-ws .before .before .before .before in
+    found-at spaced nothing (at-found .found .given .1) (chain._▹_ (at-ws .ws .ensures) (c .before .before .write-owned .ensures))
 
 returns-2 : tie.Need-returns-2
 returns-2 c = found-none spaced nothing (c .enum-told .given .1) chain.still

@@ -10,7 +10,11 @@ use Rattle.steps.proofs.stream.spaced_if.Tie as tie
 
 returns : tie.Need-returns
 unfolding eatByte
-returns c = stepped (takeIf (isByte _ (c .before .before .before .before .before .before .before .before .before .before .args .kind))) spaced (λ s. nothing) (c .before .before .before .before .before .before .eat .ensures .found) (c .before .before .before .before .before .before .eat .ensures .rest) (c .before .before .spaced-found .ensures)
+returns c =
+    let at-eat = c .before .before .before .before .before .before in
+    let start = at-eat .before .before .before .before in
+    stepped (takeIf (isByte _ (start .args .kind))) spaced (λ s. nothing) (at-eat .eat .ensures .found) (at-eat .eat .ensures .rest)
+    (c .before .before .spaced-found .ensures)
 
 pub spaced-if-spec : {M : Type 1} → statement M
 spaced-if-spec =

@@ -8,7 +8,11 @@ use Rattle.steps.proofs.stream.token.Tie as tie
 
 returns : tie.Need-returns
 unfolding expectByte
-returns c = stepped (takeIf (isByte _ (c .before .before .before .before .before .before .before .before .before .before .args .kind))) write notMet (c .before .before .before .before .before .before .eat .ensures .found) (c .before .before .before .before .before .before .eat .ensures .rest) (c .before .before .write-found .ensures)
+returns c =
+    let at-eat = c .before .before .before .before .before .before in
+    let start = at-eat .before .before .before .before in
+    stepped (takeIf (isByte _ (start .args .kind))) write notMet (at-eat .eat .ensures .found) (at-eat .eat .ensures .rest)
+    (c .before .before .write-found .ensures)
 
 pub token-spec : {M : Type 1} → statement M
 token-spec =

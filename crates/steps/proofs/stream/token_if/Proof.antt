@@ -11,11 +11,20 @@ use Rattle.steps.proofs.stream.token_if.Tie as tie
 
 returns : tie.Need-returns
 unfolding eatByte
-returns c = stepped (takeIf (isByte _ (c .before .before .before .before .before .before .before .before .before .before .before .before .before .args .kind))) write (λ (s : Stream). nothing) (c .before .before .before .before .before .before .before .before .before .eat .ensures .found) (c .before .before .before .before .before .before .before .before .before .eat .ensures .rest) (found-at write nothing (c .before .before .before .before .before .before .found .given .1) (c .before .before .write-owned .ensures))
+returns c =
+    let at-found = c .before .before .before .before .before .before in
+    let at-eat = at-found .before .before .before in
+    let start = at-eat .before .before .before .before in
+    stepped (takeIf (isByte _ (start .args .kind))) write (λ (s : Stream). nothing) (at-eat .eat .ensures .found) (at-eat .eat .ensures .rest)
+    (found-at write nothing (at-found .found .given .1) (c .before .before .write-owned .ensures))
 
 returns-2 : tie.Need-returns-2
 unfolding eatByte
-returns-2 c = stepped (takeIf (isByte _ (c .before .before .before .before .before .before .before .args .kind))) write (λ (s : Stream). nothing) (c .before .before .before .eat .ensures .found) (c .before .before .before .eat .ensures .rest) (found-none write nothing (c .enum-told .given .1) chain.still)
+returns-2 c =
+    let at-eat = c .before .before .before in
+    let start = at-eat .before .before .before .before in
+    stepped (takeIf (isByte _ (start .args .kind))) write (λ (s : Stream). nothing) (at-eat .eat .ensures .found) (at-eat .eat .ensures .rest)
+    (found-none write nothing (c .enum-told .given .1) chain.still)
 
 pub token-if-spec : {M : Type 1} → statement M
 token-if-spec =

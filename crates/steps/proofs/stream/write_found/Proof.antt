@@ -6,10 +6,14 @@ use Rattle.steps.proofs.stream.write_found.Statement.{statement}
 use Rattle.steps.proofs.stream.write_found.Tie as tie
 
 returns : tie.Need-returns
-returns c = found-at write _ (c .before .before .before .before .before .before .found .given .1) (c .before .before .write-owned .ensures)
+returns c =
+    let at-found = c .before .before .before .before .before .before in
+    found-at write _ (at-found .found .given .1) (c .before .before .write-owned .ensures)
 
 returns-2 : tie.Need-returns-2
-returns-2 c = found-none write _ (c .before .enum-told .given .1) (c .not-met .ensures .ran _ (c .before .before .before .before .before .before .args .queue .now) (c .before .before .before .before .before .before .args .out .now))
+returns-2 c =
+    let start = c .before .before .before .before .before .before in
+    found-none write _ (c .before .enum-told .given .1) (c .not-met .ensures .ran _ (start .args .queue .now) (start .args .out .now))
 
 pub write-found-spec : {M : Type 1} → statement M
 write-found-spec =
