@@ -5,7 +5,9 @@ use Rattle.paths.proofs.attribute.attribute.Statement.{statement}
 use Rattle.paths.proofs.attribute.attribute.Tie as tie
 
 returns : tie.Need-returns
-returns c = c .before .before .before .before .before .before .before .before .any .ensures ▹ steady (c .before .before .nl .ensures)
+returns c =
+    let at-any = c .before .before .before .before .before .before .before .before in
+    at-any .any .ensures ▹ steady (c .before .before .nl .ensures)
 
 pub attribute-spec : {M : Type 1} → statement M
 attribute-spec =

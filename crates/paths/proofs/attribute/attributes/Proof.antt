@@ -26,11 +26,20 @@ loop-holds c = starts
 
 loop-less : tie.Need-loop-less Inv-loop μ-loop
 unfolding byteOf factsOf
-loop-less c = falls (pump-falls (is (treeOf (c .before .before .before .before .before .before .before .before .before .before .before .args .table .now)) Kind.Attribute) write (make (Nl 1))) (c .before .before .before .before .before .before .next-is .ensures) (c .before .before .before .before .before .if1 .taken) (c .before .before .attribute .ensures)
+loop-less c =
+    let then1 = c .before .before .before .before .before in
+    let start = then1 .before .before .before .before .before .before in
+    falls (pump-falls (is (treeOf (start .args .table .now)) Kind.Attribute) write (make (Nl 1))) (then1 .before .next-is .ensures) (then1 .if1 .taken)
+    (c .before .before .attribute .ensures)
 
 loop-again : tie.Need-loop-again Inv-loop μ-loop
 unfolding byteOf factsOf
-loop-again c = goes-on (pump-falls (is (treeOf (c .before .before .before .before .before .before .before .before .before .before .before .args .table .now)) Kind.Attribute) write (make (Nl 1))) (c .before .before .before .before .before .before .next-is .ensures) (c .before .before .before .before .before .if1 .taken) (c .before .before .attribute .ensures) (c .before .before .before .before .before .before .before .loop .inv)
+loop-again c =
+    let then1 = c .before .before .before .before .before in
+    let at-loop = then1 .before .before in
+    let start = at-loop .before .before .before .before in
+    goes-on (pump-falls (is (treeOf (start .args .table .now)) Kind.Attribute) write (make (Nl 1))) (then1 .before .next-is .ensures) (then1 .if1 .taken)
+    (c .before .before .attribute .ensures) (at-loop .loop .inv)
 
 same-length : tie.Need-same-length Inv-loop μ-loop
 unfolding byteOf factsOf

@@ -11,10 +11,14 @@ returns : tie.Need-returns
 returns c = ran-as (ap apart (sym (c .enum-told .given .1))) chain.still
 
 returns-2 : tie.Need-returns-2
-returns-2 c = ran-as (ap apart (sym (c .before .before .before .before .before .enum-told2 .given .1))) (c .before .before .ws .ensures)
+returns-2 c =
+    let at-enum-told2 = c .before .before .before .before .before in
+    ran-as (ap apart (sym (at-enum-told2 .enum-told2 .given .1))) (c .before .before .ws .ensures)
 
 returns-3 : tie.Need-returns-3
-returns-3 c = ran-as (ap apart (sym (c .before .before .before .before .before .enum-told3 .given .1))) (c .before .before .ws2 .ensures)
+returns-3 c =
+    let at-enum-told3 = c .before .before .before .before .before in
+    ran-as (ap apart (sym (at-enum-told3 .enum-told3 .given .1))) (c .before .before .ws2 .ensures)
 
 pub apart-spec : {M : Type 1} → statement M
 apart-spec =

@@ -7,7 +7,13 @@ use Rattle.paths.proofs.modifier.in_node.Statement.{statement}
 use Rattle.paths.proofs.modifier.in_node.Tie as tie
 
 returns : tie.Need-returns
-returns c = parsed (treeOf (c .before .before .before .before .before .before .before .before .before .before .args .table .now)) (modifierIn (treeOf (c .before .before .before .before .before .before .before .before .before .before .args .table .now))) (c .before .before .before .before .records-of .ensures) (c .before .before .before .modifier-in .ensures) (c .left-over .ensures .ran _ (c .before .before .before .modifier-in .last .1 .1 .0) (c .before .before .before .modifier-in .last .1 .1 .1 .0))
+returns c =
+    let at-modifier-in = c .before .before .before in
+    let at-records-of = at-modifier-in .before in
+    let start = at-records-of .before .before .before .before .before .before in
+    let rs = treeOf (start .args .table .now) in
+    parsed rs (modifierIn rs) (at-records-of .records-of .ensures) (at-modifier-in .modifier-in .ensures)
+    (c .left-over .ensures .ran _ (at-modifier-in .modifier-in .last .1 .1 .0) (at-modifier-in .modifier-in .last .1 .1 .1 .0))
 
 pub in-node-spec : {M : Type 1} → statement M
 in-node-spec =

@@ -7,11 +7,22 @@ use Rattle.paths.proofs.modifier.modifier_in.Statement.{statement}
 use Rattle.paths.proofs.modifier.modifier_in.Tie as tie
 
 same-length : tie.Need-same-length
-same-length c = keeps (c .before .before .before .before .before .before .before .before .before .before .before .before .before .before .before .before .before .before .before .before .before .before .before .token .ensures ▹ c .before .before .before .before .before .before .before .before .before .before .before .before .before .before .before .before .before .before .token2 .ensures ▹ steady (c .before .before .before .before .before .before .before .before .before .before .before .before .ws .ensures) ▹ c .before .before .before .before .before .before .before .next-path .ensures ▹ c .before .before .token3 .ensures)
+same-length c =
+    let at-next-path = c .before .before .before .before .before .before .before in
+    let at-ws = at-next-path .before .before .before .before .before in
+    let at-token2 = at-ws .before .before .before .before .before .before in
+    let at-token = at-token2 .before .before .before .before .before in
+    keeps (at-token .token .ensures ▹ at-token2 .token2 .ensures ▹ steady (at-ws .ws .ensures) ▹ at-next-path .next-path .ensures ▹ c .before .before .token3 .ensures)
 
 returns : tie.Need-returns
 unfolding modifierIn byteOf factsOf
-returns c = c .before .before .before .before .before .before .before .before .before .before .before .before .before .before .before .before .before .before .before .before .before .before .before .token .ensures ▹ c .before .before .before .before .before .before .before .before .before .before .before .before .before .before .before .before .before .before .token2 .ensures ▹ steady (c .before .before .before .before .before .before .before .before .before .before .before .before .ws .ensures) ▹ c .before .before .before .before .before .before .before .next-path .ensures ▹ c .before .before .token3 .ensures
+returns c =
+    let at-next-path = c .before .before .before .before .before .before .before in
+    let at-ws = at-next-path .before .before .before .before .before in
+    let at-token2 = at-ws .before .before .before .before .before .before in
+    let at-token = at-token2 .before .before .before .before .before in
+    at-token .token .ensures ▹ at-token2 .token2 .ensures ▹ steady (at-ws .ws .ensures) ▹ at-next-path .next-path .ensures
+    ▹ c .before .before .token3 .ensures
 
 pub modifier-in-spec : {M : Type 1} → statement M
 modifier-in-spec =

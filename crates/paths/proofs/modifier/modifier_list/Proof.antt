@@ -25,17 +25,38 @@ loop-holds : tie.Need-loop-holds Inv-loop μ-loop
 loop-holds c = starts
 
 loop-less : tie.Need-loop-less Inv-loop μ-loop
-loop-less c = falls (modifiers-fall (treeOf (c .before .before .before .before .before .before .before .before .before .before .before .before .args .table .now))) (c .before .before .before .before .before .before .has-next .ensures) (c .before .before .before .before .before .if1 .taken) (c .before .before .modifier-turn .ensures)
+loop-less c =
+    let then1 = c .before .before .before .before .before in
+    let start = then1 .before .before .before .before .before .before .before in
+    falls (modifiers-fall (treeOf (start .args .table .now))) (then1 .before .has-next .ensures) (then1 .if1 .taken)
+    (c .before .before .modifier-turn .ensures)
 
 loop-again : tie.Need-loop-again Inv-loop μ-loop
-loop-again c = goes-on (modifiers-fall (treeOf (c .before .before .before .before .before .before .before .before .before .before .before .before .args .table .now))) (c .before .before .before .before .before .before .has-next .ensures) (c .before .before .before .before .before .if1 .taken) (c .before .before .modifier-turn .ensures) (c .before .before .before .before .before .before .before .loop .inv)
+loop-again c =
+    let then1 = c .before .before .before .before .before in
+    let at-loop = then1 .before .before in
+    let start = at-loop .before .before .before .before .before in
+    goes-on (modifiers-fall (treeOf (start .args .table .now))) (then1 .before .has-next .ensures) (then1 .if1 .taken)
+    (c .before .before .modifier-turn .ensures) (at-loop .loop .inv)
 
 same-length : tie.Need-same-length Inv-loop μ-loop
-same-length c = chain.keeps (c .before .before .before .apart .ensures) ∙ keeps (done (c .before .before .before .before .before .before .before .has-next .ensures) (c .before .before .before .before .before .before .if1 .left) (c .before .before .before .before .before .before .before .before .loop .inv))
+same-length c =
+    let at-apart = c .before .before .before in
+    let else1 = at-apart .before .before .before in
+    let at-loop = else1 .before .before in
+    chain.keeps (at-apart .apart .ensures) ∙ keeps (done (else1 .before .has-next .ensures) (else1 .if1 .left) (at-loop .loop .inv))
 
 returns : tie.Need-returns Inv-loop μ-loop
 unfolding modifierList
-returns c = begun (treeOf (c .before .before .before .before .before .before .before .before .before .before .before .before .before .args .table .now)) (c .before .before .before .before .before .before .before .before .before .before .before .before .before .args .queue .now) (c .before .before .before .before .before .before .before .before .before .before .before .before .before .args .out .now) (c .before .before .before .before .before .before .before .before .before .first .ensures) ▹ done (c .before .before .before .before .before .before .before .has-next .ensures) (c .before .before .before .before .before .before .if1 .left) (c .before .before .before .before .before .before .before .before .loop .inv) ▹ spaced-behind (treeOf (c .before .before .before .before .before .before .before .before .before .before .before .before .before .args .table .now)) (c .before .before .before .before .before .before .before .before .loop .s) (c .before .before .before .apart .ensures)
+returns c =
+    let at-apart = c .before .before .before in
+    let else1 = at-apart .before .before .before in
+    let at-loop = else1 .before .before in
+    let at-first = at-loop .before in
+    let start = at-first .before .before .before .before in
+    let rs = treeOf (start .args .table .now) in
+    begun rs (start .args .queue .now) (start .args .out .now) (at-first .first .ensures)
+    ▹ done (else1 .before .has-next .ensures) (else1 .if1 .left) (at-loop .loop .inv) ▹ spaced-behind rs (at-loop .loop .s) (at-apart .apart .ensures)
 
 pub modifier-list-spec : {M : Type 1} → statement M
 modifier-list-spec =

@@ -6,7 +6,10 @@ use Rattle.paths.proofs.modifier.modifier_turn.Statement.{statement}
 use Rattle.paths.proofs.modifier.modifier_turn.Tie as tie
 
 returns : tie.Need-returns
-returns c = turned (treeOf (c .before .before .before .before .before .before .before .before .before .before .before .args .table .now)) (c .before .before .before .before .before .before .before .before .before .before .before .args .s) (c .before .before .before .before .before .next-modifier .ensures) (c .one-more .ensures)
+returns c =
+    let at-next-modifier = c .before .before .before .before .before in
+    let start = at-next-modifier .before .before .before .before .before .before in
+    turned (treeOf (start .args .table .now)) (start .args .s) (at-next-modifier .next-modifier .ensures) (c .one-more .ensures)
 
 pub modifier-turn-spec : {M : Type 1} → statement M
 modifier-turn-spec =

@@ -7,11 +7,23 @@ use Rattle.paths.proofs.modifier.modifier_word.Statement.{statement}
 use Rattle.paths.proofs.modifier.modifier_word.Tie as tie
 
 same-length : tie.Need-same-length
-same-length c = keeps (c .before .before .before .before .before .before .before .before .before .before .before .before .before .before .before .before .before .before .before .before .before .before .before .before .token .ensures ▹ steady (c .before .before .before .before .before .before .before .before .before .before .before .before .before .before .before .before .before .before .comments .ensures) ▹ c .before .before .before .before .before .before .before .before .before .before .before .before .before .any .ensures ▹ steady (c .before .before .before .before .before .before .before .comments2 .ensures) ▹ c .before .before .token2 .ensures)
+same-length c =
+    let at-comments2 = c .before .before .before .before .before .before .before in
+    let at-any = at-comments2 .before .before .before .before .before .before in
+    let at-comments = at-any .before .before .before .before .before in
+    let at-token = at-comments .before .before .before .before .before .before in
+    keeps (at-token .token .ensures ▹ steady (at-comments .comments .ensures) ▹ at-any .any .ensures ▹ steady (at-comments2 .comments2 .ensures)
+    ▹ c .before .before .token2 .ensures)
 
 returns : tie.Need-returns
 unfolding modifierWord byteOf factsOf
-returns c = c .before .before .before .before .before .before .before .before .before .before .before .before .before .before .before .before .before .before .before .before .before .before .before .before .token .ensures ▹ steady (c .before .before .before .before .before .before .before .before .before .before .before .before .before .before .before .before .before .before .comments .ensures) ▹ c .before .before .before .before .before .before .before .before .before .before .before .before .before .any .ensures ▹ steady (c .before .before .before .before .before .before .before .comments2 .ensures) ▹ c .before .before .token2 .ensures
+returns c =
+    let at-comments2 = c .before .before .before .before .before .before .before in
+    let at-any = at-comments2 .before .before .before .before .before .before in
+    let at-comments = at-any .before .before .before .before .before in
+    let at-token = at-comments .before .before .before .before .before .before in
+    at-token .token .ensures ▹ steady (at-comments .comments .ensures) ▹ at-any .any .ensures ▹ steady (at-comments2 .comments2 .ensures)
+    ▹ c .before .before .token2 .ensures
 
 pub modifier-word-spec : {M : Type 1} → statement M
 modifier-word-spec =

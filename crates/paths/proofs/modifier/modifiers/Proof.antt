@@ -13,11 +13,22 @@ use Rattle.paths.proofs.modifier.modifiers.Tie as tie
 
 returns : tie.Need-returns
 unfolding modifiers byteOf factsOf
-returns c = eaten-at (treeOf (c .before .before .before .before .before .before .before .before .before .before .before .before .before .args .table .now)) (byteOf Kind.Modifiers) (parse (treeOf (c .before .before .before .before .before .before .before .before .before .before .before .before .before .args .table .now)) (modifierList (treeOf (c .before .before .before .before .before .before .before .before .before .before .before .before .before .args .table .now)))) (streamOf (treeOf (c .before .before .before .before .before .before .before .before .before .before .before .before .before .args .table .now)) (c .before .before .before .before .before .before .before .before .before .before .before .before .before .args .p)) (c .before .before .before .before .before .before .before .before .before .eat .ensures) (c .before .before .before .before .before .before .found .given .1) (c .before .before .list-node .ensures)
+returns c =
+    let at-found = c .before .before .before .before .before .before in
+    let at-eat = at-found .before .before .before in
+    let start = at-eat .before .before .before .before in
+    let rs = treeOf (start .args .table .now) in
+    eaten-at rs (byteOf Kind.Modifiers) (parse rs (modifierList rs)) (streamOf rs (start .args .p)) (at-eat .eat .ensures) (at-found .found .given .1)
+    (c .before .before .list-node .ensures)
 
 returns-2 : tie.Need-returns-2
 unfolding modifiers byteOf factsOf
-returns-2 c = eaten-none (treeOf (c .before .before .before .before .before .before .before .args .table .now)) (byteOf Kind.Modifiers) (parse (treeOf (c .before .before .before .before .before .before .before .args .table .now)) (modifierList (treeOf (c .before .before .before .before .before .before .before .args .table .now)))) (streamOf (treeOf (c .before .before .before .before .before .before .before .args .table .now)) (c .before .before .before .before .before .before .before .args .p)) (c .before .before .before .eat .ensures) (c .enum-told .given .1) chain.still
+returns-2 c =
+    let at-eat = c .before .before .before in
+    let start = at-eat .before .before .before .before in
+    let rs = treeOf (start .args .table .now) in
+    eaten-none rs (byteOf Kind.Modifiers) (parse rs (modifierList rs)) (streamOf rs (start .args .p)) (at-eat .eat .ensures) (c .enum-told .given .1)
+    chain.still
 
 pub modifiers-spec : {M : Type 1} → statement M
 modifiers-spec =

@@ -8,10 +8,21 @@ use Rattle.paths.proofs.modifier.next_modifier.Statement.{statement}
 use Rattle.paths.proofs.modifier.next_modifier.Tie as tie
 
 returns : tie.Need-returns
-returns c = pumped-at (treeOf (c .before .before .before .before .before .before .before .before .before .before .before .before .before .args .table .now)) (modifier (treeOf (c .before .before .before .before .before .before .before .before .before .before .before .before .before .args .table .now)) (c .before .before .before .before .before .before .before .before .before .before .before .before .before .args .before)) (streamOf (treeOf (c .before .before .before .before .before .before .before .before .before .before .before .before .before .args .table .now)) (c .before .before .before .before .before .before .before .before .before .before .before .before .before .args .p)) (c .before .before .before .before .before .before .before .before .before .take-any .ensures) (c .before .before .before .before .before .before .found .given .1) (c .before .before .modifier .ensures)
+returns c =
+    let at-found = c .before .before .before .before .before .before in
+    let at-take-any = at-found .before .before .before in
+    let start = at-take-any .before .before .before .before in
+    let rs = treeOf (start .args .table .now) in
+    pumped-at rs (modifier rs (start .args .before)) (streamOf rs (start .args .p)) (at-take-any .take-any .ensures) (at-found .found .given .1)
+    (c .before .before .modifier .ensures)
 
 returns-2 : tie.Need-returns-2
-returns-2 c = pumped-none (treeOf (c .before .before .before .before .before .before .before .before .args .table .now)) (modifier (treeOf (c .before .before .before .before .before .before .before .before .args .table .now)) (c .before .before .before .before .before .before .before .before .args .before)) (streamOf (treeOf (c .before .before .before .before .before .before .before .before .args .table .now)) (c .before .before .before .before .before .before .before .before .args .p)) (c .before .before .before .before .take-any .ensures) (c .before .enum-told .given .1) (c .not-met .ensures .ran _ (c .before .before .before .before .before .before .before .before .args .queue .now) (c .before .before .before .before .before .before .before .before .args .out .now))
+returns-2 c =
+    let at-take-any = c .before .before .before .before in
+    let start = at-take-any .before .before .before .before in
+    let rs = treeOf (start .args .table .now) in
+    pumped-none rs (modifier rs (start .args .before)) (streamOf rs (start .args .p)) (at-take-any .take-any .ensures) (c .before .enum-told .given .1)
+    (c .not-met .ensures .ran _ (start .args .queue .now) (start .args .out .now))
 
 pub next-modifier-spec : {M : Type 1} → statement M
 next-modifier-spec =

@@ -7,7 +7,13 @@ use Rattle.paths.proofs.modifier.word_node.Statement.{statement}
 use Rattle.paths.proofs.modifier.word_node.Tie as tie
 
 returns : tie.Need-returns
-returns c = parsed (treeOf (c .before .before .before .before .before .before .before .before .before .before .args .table .now)) (modifierWord (treeOf (c .before .before .before .before .before .before .before .before .before .before .args .table .now))) (c .before .before .before .before .records-of .ensures) (c .before .before .before .modifier-word .ensures) (c .left-over .ensures .ran _ (c .before .before .before .modifier-word .last .1 .1 .0) (c .before .before .before .modifier-word .last .1 .1 .1 .0))
+returns c =
+    let at-modifier-word = c .before .before .before in
+    let at-records-of = at-modifier-word .before in
+    let start = at-records-of .before .before .before .before .before .before in
+    let rs = treeOf (start .args .table .now) in
+    parsed rs (modifierWord rs) (at-records-of .records-of .ensures) (at-modifier-word .modifier-word .ensures)
+    (c .left-over .ensures .ran _ (at-modifier-word .modifier-word .last .1 .1 .0) (at-modifier-word .modifier-word .last .1 .1 .1 .0))
 
 pub word-node-spec : {M : Type 1} → statement M
 word-node-spec =

@@ -6,10 +6,14 @@ use Rattle.paths.proofs.modifier.write_apart.Statement.{statement}
 use Rattle.paths.proofs.modifier.write_apart.Tie as tie
 
 same-length : tie.Need-same-length
-same-length c = chain.keeps (c .before .before .write-owned .ensures) ∙ chain.keeps (c .before .before .before .before .before .before .before .apart .ensures)
+same-length c =
+    let at-apart = c .before .before .before .before .before .before .before in
+    chain.keeps (c .before .before .write-owned .ensures) ∙ chain.keeps (at-apart .apart .ensures)
 
 returns : tie.Need-returns
-returns c = chain._▹_ (c .before .before .before .before .before .before .before .apart .ensures) (c .before .before .write-owned .ensures)
+returns c =
+    let at-apart = c .before .before .before .before .before .before .before in
+    chain._▹_ (at-apart .apart .ensures) (c .before .before .write-owned .ensures)
 
 pub write-apart-spec : {M : Type 1} → statement M
 write-apart-spec =

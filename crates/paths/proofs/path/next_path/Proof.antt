@@ -12,7 +12,12 @@ use Rattle.paths.proofs.path.next_path.Tie as tie
 
 returns : tie.Need-returns
 unfolding expectByte byteOf factsOf
-returns c = stepped (takeIf (isByte (treeOf (c .before .before .before .before .before .before .before .before .before .before .args .table .now)) (byteOf Kind.Path))) (path (treeOf (c .before .before .before .before .before .before .before .before .before .before .args .table .now)) 64) notMet (c .before .before .before .before .before .before .eat .ensures .found) (c .before .before .before .before .before .before .eat .ensures .rest) (c .before .before .path-found .ensures)
+returns c =
+    let at-eat = c .before .before .before .before .before .before in
+    let start = at-eat .before .before .before .before in
+    let rs = treeOf (start .args .table .now) in
+    stepped (takeIf (isByte rs (byteOf Kind.Path))) (path rs 64) notMet (at-eat .eat .ensures .found) (at-eat .eat .ensures .rest)
+    (c .before .before .path-found .ensures)
 
 pub next-path-spec : {M : Type 1} → statement M
 next-path-spec =

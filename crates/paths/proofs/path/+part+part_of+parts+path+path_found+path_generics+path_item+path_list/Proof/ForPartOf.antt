@@ -17,11 +17,15 @@ module _ (t : ℕ) where
 
   returns : lts.Need-returns claims (part-of-at t) part-of.Post
   unfolding pathPart byteOf factsOf
-  returns c = if-so _ _ (c .before .before .before .before .before .before .is-kind .ensures) (c .before .before .before .before .before .if1 .taken) (c .before .before .path-generics .ensures)
+  returns c =
+      let then1 = c .before .before .before .before .before in
+      if-so _ _ (then1 .before .is-kind .ensures) (then1 .if1 .taken) (c .before .before .path-generics .ensures)
 
   returns-2 : lts.Need-returns-2 claims (part-of-at t) part-of.Post
   unfolding pathPart byteOf factsOf
-  returns-2 c = if-not _ _ (c .before .before .before .before .before .before .is-kind .ensures) (c .before .before .before .before .before .if1 .left) (c .before .before .write-owned .ensures)
+  returns-2 c =
+      let else1 = c .before .before .before .before .before in
+      if-not _ _ (else1 .before .is-kind .ensures) (else1 .if1 .left) (c .before .before .write-owned .ensures)
 
   pub closed : {M : Type 1} → lts.Closed claims (part-of-at t) part-of.Post M
   closed = lts.spec claims (part-of-at t) part-of.Post (λ c κs. search needs) (λ c κs. search needs) (λ c. search needs) returns (λ c κs. search needs) (λ c. search needs) returns-2

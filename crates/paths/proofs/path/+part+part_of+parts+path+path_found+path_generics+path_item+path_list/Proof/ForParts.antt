@@ -31,10 +31,15 @@ module _ (t : ℕ) where
   loop-holds c = starts
 
   loop-less : lts.Need-loop-less claims (parts-at t) parts.Post Inv-loop μ-loop
-  loop-less c = falls (all-fall _) (c .before .before .before .before .before .before .has-next .ensures) (c .before .before .before .before .before .if1 .taken) (c .before .before .part .ensures)
+  loop-less c =
+      let then1 = c .before .before .before .before .before in
+      falls (all-fall _) (then1 .before .has-next .ensures) (then1 .if1 .taken) (c .before .before .part .ensures)
 
   loop-again : lts.Need-loop-again claims (parts-at t) parts.Post Inv-loop μ-loop
-  loop-again c = goes-on (all-fall _) (c .before .before .before .before .before .before .has-next .ensures) (c .before .before .before .before .before .if1 .taken) (c .before .before .part .ensures) (c .before .before .before .before .before .before .before .loop .inv)
+  loop-again c =
+      let then1 = c .before .before .before .before .before in
+      let at-loop = then1 .before .before in
+      goes-on (all-fall _) (then1 .before .has-next .ensures) (then1 .if1 .taken) (c .before .before .part .ensures) (at-loop .loop .inv)
 
   same-length : lts.Need-same-length claims (parts-at t) parts.Post Inv-loop μ-loop
   same-length c = keeps (done (c .before .has-next .ensures) (c .if1 .left) (c .before .before .loop .inv))

@@ -18,10 +18,21 @@ module _ (t : ℕ) where
   claims = (refuse-reads.Asked, refuse-reads.Learnt, records-of-reads.Asked, records-of-reads.Learnt, parts-below t, parts.Post, left-over-reads.Asked, left-over-reads.Learnt)
 
   returns : lts.Need-returns claims (path-at t) path.Post
-  returns c = path-none (treeOf (c .before .before .before .before .before .args .table .now)) (c .before .before .before .before .before .args .k) (c .before .before .before .before .before .args .depth) (c .before .if1 .taken) (c .refuse .ensures .ran _ (c .before .before .before .before .before .args .queue .now) (c .before .before .before .before .before .args .out .now))
+  returns c =
+      let start = c .before .before .before .before .before in
+      path-none (treeOf (start .args .table .now)) (start .args .k) (start .args .depth) (c .before .if1 .taken)
+      (c .refuse .ensures .ran _ (start .args .queue .now) (start .args .out .now))
 
   returns-2 : lts.Need-returns-2 claims (path-at t) path.Post
-  returns-2 c = path-some (treeOf (c .before .before .before .before .before .before .before .before .before .before .before .args .table .now)) (c .before .before .before .before .before .before .before .before .before .before .before .args .k) (c .before .before .before .before .before .before .before .before .before .before .before .args .depth) (c .before .before .before .before .before .before .before .if1 .left) (parsed (treeOf (c .before .before .before .before .before .before .before .before .before .before .before .args .table .now)) _ (c .before .before .before .before .before .before .records-of .ensures) (c .before .before .before .parts .ensures) (c .left-over .ensures .ran _ (c .before .before .before .parts .last .1 .1 .0) (c .before .before .before .parts .last .1 .1 .1 .0)))
+  returns-2 c =
+      let at-parts = c .before .before .before in
+      let at-records-of = at-parts .before .before .before in
+      let else1 = at-records-of .before in
+      let start = else1 .before .before .before .before in
+      let rs = treeOf (start .args .table .now) in
+      path-some rs (start .args .k) (start .args .depth) (else1 .if1 .left)
+      (parsed rs _ (at-records-of .records-of .ensures) (at-parts .parts .ensures)
+      (c .left-over .ensures .ran _ (at-parts .parts .last .1 .1 .0) (at-parts .parts .last .1 .1 .1 .0)))
 
   pub closed : {M : Type 1} → lts.Closed claims (path-at t) path.Post M
   closed = lts.spec claims (path-at t) path.Post (λ c κs. search needs) returns (λ c κs. search needs) (λ c. search needs) (λ c κs. search needs) (λ c κs. search needs) (λ c. search needs) returns-2

@@ -14,10 +14,14 @@ module _ (t : ℕ) where
   claims = (path-below t, path.Post, not-met-reads.Asked, not-met-reads.Learnt)
 
   returns : lts.Need-returns claims (path-found-at t) path-found.Post
-  returns c = found-at _ _ (c .before .before .before .before .before .before .found .given .1) (c .before .before .path .ensures)
+  returns c =
+      let at-found = c .before .before .before .before .before .before in
+      found-at _ _ (at-found .found .given .1) (c .before .before .path .ensures)
 
   returns-2 : lts.Need-returns-2 claims (path-found-at t) path-found.Post
-  returns-2 c = found-none (path _ _) _ (c .before .enum-told .given .1) (c .not-met .ensures .ran _ (c .before .before .before .before .before .before .args .queue .now) (c .before .before .before .before .before .before .args .out .now))
+  returns-2 c =
+      let start = c .before .before .before .before .before .before in
+      found-none (path _ _) _ (c .before .enum-told .given .1) (c .not-met .ensures .ran _ (start .args .queue .now) (start .args .out .now))
 
   pub closed : {M : Type 1} → lts.Closed claims (path-found-at t) path-found.Post M
   closed = lts.spec claims (path-found-at t) path-found.Post (λ c. search needs) (λ c κs. search needs) (λ c. search needs) (λ c κs. search needs) (λ c. search needs) returns returns-2

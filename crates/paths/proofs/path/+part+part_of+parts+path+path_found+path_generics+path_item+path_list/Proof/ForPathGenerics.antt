@@ -24,14 +24,35 @@ module _ (t : ℕ) where
   claims = (records-of-reads.Asked, records-of-reads.Learnt, token-reads.Asked, token-reads.Learnt, first-reads.Asked, first-reads.Learnt, path-list-below t, path-list.Post, close-reads.Asked, close-reads.Learnt, left-over-reads.Asked, left-over-reads.Learnt)
 
   path-list-requires : lts.Need-path-list-requires claims (path-generics-at t) path-generics.Post
-  path-list-requires c κs = (omega (arith, c .before .before .before .before .before .before .before .before .before .before .before .before .pre .0), tt)
+  path-list-requires c κs =
+      let start = c .before .before .before .before .before .before .before .before .before .before .before .before in
+      (omega (arith, start .pre .0), tt)
 
   same-length : lts.Need-same-length claims (path-generics-at t) path-generics.Post
-  same-length c = keeps (c .before .before .before .token2 .ensures) ∙ keeps (c .before .before .before .before .before .before .before .before .close .ensures) ∙ keeps (c .before .before .before .before .before .before .before .before .before .before .before .before .before .path-list .ensures) ∙ keeps (c .before .before .before .before .before .before .before .before .before .before .before .before .before .before .before .before .before .before .before .token .ensures)
+  same-length c =
+      let at-token2 = c .before .before .before in
+      let at-close = at-token2 .before .before .before .before .before in
+      let at-path-list = at-close .before .before .before .before .before in
+      let at-token = at-path-list .before .before .before .before .before .before in
+      keeps (at-token2 .token2 .ensures) ∙ keeps (at-close .close .ensures) ∙ keeps (at-path-list .path-list .ensures) ∙ keeps (at-token .token .ensures)
 
   returns : lts.Need-returns claims (path-generics-at t) path-generics.Post
   unfolding pathGenerics genericsRule list items byteOf factsOf
-  returns c = parsed (treeOf (c .before .before .before .before .before .before .before .before .before .before .before .before .before .before .before .before .before .before .before .before .before .before .before .before .before .before .args .table .now)) _ (c .before .before .before .before .before .before .before .before .before .before .before .before .before .before .before .before .before .before .before .before .before .before .records-of .ensures) (c .before .before .before .before .before .before .before .before .before .before .before .before .before .before .before .before .before .before .before .token .ensures ▹ ((begun (treeOf (c .before .before .before .before .before .before .before .before .before .before .before .before .before .before .before .before .before .before .before .before .before .before .before .before .before .before .args .table .now)) (c .before .before .before .before .before .before .before .before .before .before .before .before .before .before .before .before .before .before .before .token .last .1 .1 .0) (c .before .before .before .before .before .before .before .before .before .before .before .before .before .before .before .before .before .before .before .token .last .1 .1 .1 .0) (c .before .before .before .before .before .before .before .before .before .before .before .before .before .before .before .before .first .ensures) ▹ c .before .before .before .before .before .before .before .before .before .before .before .before .before .path-list .ensures) ▹ c .before .before .before .before .before .before .before .before .close .ensures) ▹ c .before .before .before .token2 .ensures) (c .left-over .ensures .ran _ (c .before .before .before .token2 .last .1 .1 .0) (c .before .before .before .token2 .last .1 .1 .1 .0))
+  returns c =
+      let at-token2 = c .before .before .before in
+      let at-close = at-token2 .before .before .before .before .before in
+      let at-path-list = at-close .before .before .before .before .before in
+      let at-first = at-path-list .before .before .before in
+      let at-token = at-first .before .before .before in
+      let at-records-of = at-token .before .before .before in
+      let start = at-records-of .before .before .before .before in
+      let rs = treeOf (start .args .table .now) in
+      parsed rs _ (at-records-of .records-of .ensures)
+      (at-token .token .ensures
+      ▹ ((begun rs (at-token .token .last .1 .1 .0) (at-token .token .last .1 .1 .1 .0) (at-first .first .ensures) ▹ at-path-list .path-list .ensures)
+      ▹ at-close .close .ensures)
+      ▹ at-token2 .token2 .ensures)
+      (c .left-over .ensures .ran _ (at-token2 .token2 .last .1 .1 .0) (at-token2 .token2 .last .1 .1 .1 .0))
 
   pub closed : {M : Type 1} → lts.Closed claims (path-generics-at t) path-generics.Post M
   closed = lts.spec claims (path-generics-at t) path-generics.Post (λ c κs. search needs) (λ c κs. search needs) (λ c κs. search needs) path-list-requires (λ c κs. search needs) (λ c κs. search needs) (λ c κs. search needs) same-length returns

@@ -23,11 +23,22 @@ module _ (t : ℕ) where
   claims = (before-item-reads.Asked, before-item-reads.Learnt, take-any-reads.Asked, take-any-reads.Learnt, path-found-below t, path-found.Post, behind-item-reads.Asked, behind-item-reads.Learnt)
 
   same-length : lts.Need-same-length claims (path-item-at t) path-item.Post
-  same-length c = keeps (c .before .before .behind-item .ensures) ∙ chain.keeps (c .before .before .before .before .before .before .before .path-found .ensures) ∙ chain.keeps (c .before .before .before .before .before .before .before .before .before .before .before .before .before .before .before-item .ensures)
+  same-length c =
+      let at-path-found = c .before .before .before .before .before .before .before in
+      let at-before-item = at-path-found .before .before .before .before .before .before .before in
+      keeps (c .before .before .behind-item .ensures) ∙ chain.keeps (at-path-found .path-found .ensures) ∙ chain.keeps (at-before-item .before-item .ensures)
 
   returns : lts.Need-returns claims (path-item-at t) path-item.Post
   unfolding turn listed pump
-  returns c = itemed (treeOf (c .before .before .before .before .before .before .before .before .before .before .before .before .before .before .before .before .before .before .before .before .args .table .now)) (c .before .before .before .before .before .before .before .before .before .before .before .before .before .before .before .before .before .before .before .before .args .s) _ (steady (c .before .before .before .before .before .before .before .before .before .before .before .before .before .before .before-item .ensures) ▹ stepped takeAny (path _ _) notMet (c .before .before .before .before .before .before .before .before .before .before .before .take-any .ensures .found) (c .before .before .before .before .before .before .before .before .before .before .before .take-any .ensures .rest) (c .before .before .before .before .before .before .before .path-found .ensures)) ▹ c .before .before .behind-item .ensures
+  returns c =
+      let at-path-found = c .before .before .before .before .before .before .before in
+      let at-take-any = at-path-found .before .before .before .before in
+      let at-before-item = at-take-any .before .before .before in
+      let start = at-before-item .before .before .before .before .before .before in
+      itemed (treeOf (start .args .table .now)) (start .args .s) _
+      (steady (at-before-item .before-item .ensures)
+      ▹ stepped takeAny (path _ _) notMet (at-take-any .take-any .ensures .found) (at-take-any .take-any .ensures .rest) (at-path-found .path-found .ensures))
+      ▹ c .before .before .behind-item .ensures
 
   pub closed : {M : Type 1} → lts.Closed claims (path-item-at t) path-item.Post M
   closed = lts.spec claims (path-item-at t) path-item.Post (λ c κs. search needs) (λ c κs. search needs) (λ c κs. search needs) (λ c κs. search needs) same-length returns
