@@ -13,12 +13,23 @@ use Rattle.patterns.proofs.fn_args.arg.Statement.{statement}
 use Rattle.patterns.proofs.fn_args.arg.Tie as tie
 
 same-length : tie.Need-same-length
-same-length c = keeps (c .before .before .behind-item .ensures) ∙ chain.keeps (c .before .before .before .before .before .before .before .pat-found .ensures) ∙ chain.keeps (c .before .before .before .before .before .before .before .before .before .before .before .before .before .before .before-item .ensures)
+same-length c =
+    let at-pat-found = c .before .before .before .before .before .before .before in
+    let at-before-item = at-pat-found .before .before .before .before .before .before .before in
+    keeps (c .before .before .behind-item .ensures) ∙ chain.keeps (at-pat-found .pat-found .ensures) ∙ chain.keeps (at-before-item .before-item .ensures)
 
 returns : tie.Need-returns
 unfolding turn listed pump
-returns c = let rs = treeOf (c .before .before .before .before .before .before .before .before .before .before .before .before .before .before .before .before .before .before .before .before .args .table .now) in
-    itemed rs (c .before .before .before .before .before .before .before .before .before .before .before .before .before .before .before .before .before .before .before .before .args .s) _ (steady (c .before .before .before .before .before .before .before .before .before .before .before .before .before .before .before-item .ensures) ▹ stepped takeAny (pat rs 64) notMet (c .before .before .before .before .before .before .before .before .before .before .before .take-any .ensures .found) (c .before .before .before .before .before .before .before .before .before .before .before .take-any .ensures .rest) (c .before .before .before .before .before .before .before .pat-found .ensures)) ▹ c .before .before .behind-item .ensures
+returns c =
+    let at-pat-found = c .before .before .before .before .before .before .before in
+    let at-take-any = at-pat-found .before .before .before .before in
+    let at-before-item = at-take-any .before .before .before in
+    let start = at-before-item .before .before .before .before .before .before in
+    let rs = treeOf (start .args .table .now) in
+    itemed rs (start .args .s) _
+    (steady (at-before-item .before-item .ensures)
+    ▹ stepped takeAny (pat rs 64) notMet (at-take-any .take-any .ensures .found) (at-take-any .take-any .ensures .rest) (at-pat-found .pat-found .ensures))
+    ▹ c .before .before .behind-item .ensures
 
 pub arg-spec : {M : Type 1} → statement M
 arg-spec =

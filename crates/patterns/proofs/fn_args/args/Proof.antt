@@ -26,11 +26,16 @@ loop-holds c = starts
 
 loop-less : tie.Need-loop-less Inv-loop μ-loop
 unfolding byteOf factsOf
-loop-less c = falls (list-falls _ _ _) (c .before .before .before .before .before .before .next-is .ensures) (c .before .before .before .before .before .if1 .taken) (c .before .before .arg .ensures)
+loop-less c =
+    let then1 = c .before .before .before .before .before in
+    falls (list-falls _ _ _) (then1 .before .next-is .ensures) (then1 .if1 .taken) (c .before .before .arg .ensures)
 
 loop-again : tie.Need-loop-again Inv-loop μ-loop
 unfolding byteOf factsOf
-loop-again c = goes-on (list-falls _ _ _) (c .before .before .before .before .before .before .next-is .ensures) (c .before .before .before .before .before .if1 .taken) (c .before .before .arg .ensures) (c .before .before .before .before .before .before .before .loop .inv)
+loop-again c =
+    let then1 = c .before .before .before .before .before in
+    let at-loop = then1 .before .before in
+    goes-on (list-falls _ _ _) (then1 .before .next-is .ensures) (then1 .if1 .taken) (c .before .before .arg .ensures) (at-loop .loop .inv)
 
 same-length : tie.Need-same-length Inv-loop μ-loop
 unfolding byteOf factsOf

@@ -11,11 +11,28 @@ use Rattle.patterns.proofs.fn_args.fn_args.Statement.{statement}
 use Rattle.patterns.proofs.fn_args.fn_args.Tie as tie
 
 same-length : tie.Need-same-length
-same-length c = keeps (c .before .before .token2 .ensures) ∙ keeps (c .before .before .before .before .before .before .before .close .ensures) ∙ keeps (c .before .before .before .before .before .before .before .before .before .before .before .before .args2 .ensures) ∙ keeps (c .before .before .before .before .before .before .before .before .before .before .before .before .before .before .before .before .before .before .no-comma .ensures) ∙ keeps (c .before .before .before .before .before .before .before .before .before .before .before .before .before .before .before .before .before .before .before .before .before .before .before .token .ensures)
+same-length c =
+    let at-close = c .before .before .before .before .before .before .before in
+    let at-args2 = at-close .before .before .before .before .before in
+    let at-no-comma = at-args2 .before .before .before .before .before .before in
+    let at-token = at-no-comma .before .before .before .before .before in
+    keeps (c .before .before .token2 .ensures) ∙ keeps (at-close .close .ensures) ∙ keeps (at-args2 .args2 .ensures) ∙ keeps (at-no-comma .no-comma .ensures)
+    ∙ keeps (at-token .token .ensures)
 
 returns : tie.Need-returns
 unfolding fnArgs list items byteOf factsOf
-returns c = c .before .before .before .before .before .before .before .before .before .before .before .before .before .before .before .before .before .before .before .before .before .before .before .token .ensures ▹ c .before .before .before .before .before .before .before .before .before .before .before .before .before .before .before .before .before .before .no-comma .ensures ▹ ((begun (treeOf (c .before .before .before .before .before .before .before .before .before .before .before .before .before .before .before .before .before .before .before .before .before .before .before .before .before .before .before .before .before .args .table .now)) (c .before .before .before .before .before .before .before .before .before .before .before .before .before .before .before .before .before .before .no-comma .last .1 .1 .0) (c .before .before .before .before .before .before .before .before .before .before .before .before .before .before .before .before .before .before .no-comma .last .1 .1 .1 .0) (c .before .before .before .before .before .before .before .before .before .before .before .before .before .first .ensures) ▹ c .before .before .before .before .before .before .before .before .before .before .before .before .args2 .ensures) ▹ c .before .before .before .before .before .before .before .close .ensures) ▹ c .before .before .token2 .ensures
+returns c =
+    let at-close = c .before .before .before .before .before .before .before in
+    let at-args2 = at-close .before .before .before .before .before in
+    let at-first = at-args2 .before in
+    let at-no-comma = at-first .before .before .before .before .before in
+    let at-token = at-no-comma .before .before .before .before .before in
+    let start = at-token .before .before .before .before .before .before in
+    at-token .token .ensures ▹ at-no-comma .no-comma .ensures
+    ▹ ((begun (treeOf (start .args .table .now)) (at-no-comma .no-comma .last .1 .1 .0) (at-no-comma .no-comma .last .1 .1 .1 .0) (at-first .first .ensures)
+    ▹ at-args2 .args2 .ensures)
+    ▹ at-close .close .ensures)
+    ▹ c .before .before .token2 .ensures
 
 pub fn-args-spec : {M : Type 1} → statement M
 fn-args-spec =

@@ -11,8 +11,12 @@ use Rattle.patterns.proofs.fn_args.no_comma.Tie as tie
 
 returns : tie.Need-returns
 unfolding noComma
-returns c = let rs = treeOf (c .before .before .before .before .before .before .before .before .before .before .args .table .now) in
-    rest-then rs Comma (streamOf rs (c .before .before .before .before .before .before .before .before .before .before .args .p)) ignore (c .before .before .before .before .before .before .before .before .before .before .args .queue .now) (c .before .before .before .before .before .before .before .before .before .before .args .out .now) (c .before .before .before .before .before .before .take-remaining .ensures) (c .before .before .pass .ensures)
+returns c =
+    let at-take-remaining = c .before .before .before .before .before .before in
+    let start = at-take-remaining .before .before .before .before in
+    let rs = treeOf (start .args .table .now) in
+    rest-then rs Comma (streamOf rs (start .args .p)) ignore (start .args .queue .now) (start .args .out .now) (at-take-remaining .take-remaining .ensures)
+    (c .before .before .pass .ensures)
 
 pub no-comma-spec : {M : Type 1} → statement M
 no-comma-spec =

@@ -5,7 +5,9 @@ use Rattle.patterns.proofs.pat_parts.attribute.Statement.{statement}
 use Rattle.patterns.proofs.pat_parts.attribute.Tie as tie
 
 returns : tie.Need-returns
-returns c = c .before .before .before .before .before .before .before .before .any .ensures ▹ steady (c .before .before .ws .ensures)
+returns c =
+    let at-any = c .before .before .before .before .before .before .before .before in
+    at-any .any .ensures ▹ steady (c .before .before .ws .ensures)
 
 pub attribute-spec : {M : Type 1} → statement M
 attribute-spec =

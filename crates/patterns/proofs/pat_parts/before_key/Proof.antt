@@ -6,7 +6,9 @@ use Rattle.patterns.proofs.pat_parts.before_key.Statement.{statement}
 use Rattle.patterns.proofs.pat_parts.before_key.Tie as tie
 
 returns : tie.Need-returns
-returns c = chain._▹_ (c .before .before .before .before .before .before .before .fmt .ensures) (c .before .before .ws .ensures)
+returns c =
+    let at-fmt = c .before .before .before .before .before .before .before in
+    chain._▹_ (at-fmt .fmt .ensures) (c .before .before .ws .ensures)
 
 pub before-key-spec : {M : Type 1} → statement M
 before-key-spec =

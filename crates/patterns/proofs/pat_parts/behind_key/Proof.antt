@@ -9,7 +9,11 @@ use Rattle.patterns.proofs.pat_parts.behind_key.Statement.{statement}
 use Rattle.patterns.proofs.pat_parts.behind_key.Tie as tie
 
 returns : tie.Need-returns
-returns c = step-on (c .before .before .before .before .before .before .before .args .queue .now) (c .before .before .before .before .before .before .before .args .out .now) (c .before .before .before .rest-of .ensures) ▹ counts (treeOf (c .before .before .before .before .before .before .before .args .table .now)) silent (c .before .before .before .rest-of .result) chain.still (c .one-more .ensures)
+returns c =
+    let at-rest-of = c .before .before .before in
+    let start = at-rest-of .before .before .before .before in
+    step-on (start .args .queue .now) (start .args .out .now) (at-rest-of .rest-of .ensures)
+    ▹ counts (treeOf (start .args .table .now)) silent (at-rest-of .rest-of .result) chain.still (c .one-more .ensures)
 
 pub behind-key-spec : {M : Type 1} → statement M
 behind-key-spec =

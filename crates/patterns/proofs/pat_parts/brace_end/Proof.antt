@@ -11,8 +11,12 @@ use Rattle.patterns.proofs.pat_parts.brace_end.Tie as tie
 
 returns : tie.Need-returns
 unfolding braceEnd
-returns c = let rs = treeOf (c .before .before .before .before .before .before .before .before .before .before .args .table .now) in
-    rest-then rs CloseBrace (streamOf rs (c .before .before .before .before .before .before .before .before .before .before .args .p)) fmt (c .before .before .before .before .before .before .before .before .before .before .args .queue .now) (c .before .before .before .before .before .before .before .before .before .before .args .out .now) (c .before .before .before .before .before .before .take-remaining .ensures) (c .before .before .fmt .ensures)
+returns c =
+    let at-take-remaining = c .before .before .before .before .before .before in
+    let start = at-take-remaining .before .before .before .before in
+    let rs = treeOf (start .args .table .now) in
+    rest-then rs CloseBrace (streamOf rs (start .args .p)) fmt (start .args .queue .now) (start .args .out .now) (at-take-remaining .take-remaining .ensures)
+    (c .before .before .fmt .ensures)
 
 pub brace-end-spec : {M : Type 1} → statement M
 brace-end-spec =

@@ -12,11 +12,18 @@ use Rattle.patterns.proofs.pat_parts.key_or_dots.Tie as tie
 
 returns : tie.Need-returns
 unfolding keyOrDots isKey byteOf factsOf
-returns c = either-first (is (treeOf (c .before .before .before .args .table .now)) Kind.ObjectKey) (is (treeOf (c .before .before .before .args .table .now)) Kind.DotDot) (streamOf (treeOf (c .before .before .before .args .table .now)) (c .before .before .before .args .p)) (c .before .next-is .ensures) (c .if1 .taken)
+returns c =
+    let start = c .before .before .before in
+    let rs = treeOf (start .args .table .now) in
+    either-first (is rs Kind.ObjectKey) (is rs Kind.DotDot) (streamOf rs (start .args .p)) (c .before .next-is .ensures) (c .if1 .taken)
 
 returns-2 : tie.Need-returns-2
 unfolding keyOrDots isKey byteOf factsOf
-returns-2 c = either-second (is (treeOf (c .before .before .before .before .args .table .now)) Kind.ObjectKey) (is (treeOf (c .before .before .before .before .args .table .now)) Kind.DotDot) (streamOf (treeOf (c .before .before .before .before .args .table .now)) (c .before .before .before .before .args .p)) (c .before .before .next-is .ensures) (c .before .if1 .left) (c .next-is2 .ensures)
+returns-2 c =
+    let start = c .before .before .before .before in
+    let rs = treeOf (start .args .table .now) in
+    either-second (is rs Kind.ObjectKey) (is rs Kind.DotDot) (streamOf rs (start .args .p)) (c .before .before .next-is .ensures) (c .before .if1 .left)
+    (c .next-is2 .ensures)
 
 pub key-or-dots-spec : {M : Type 1} → statement M
 key-or-dots-spec =

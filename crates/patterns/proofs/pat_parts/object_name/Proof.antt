@@ -15,13 +15,22 @@ use Rattle.patterns.proofs.pat_parts.object_name.Tie as tie
 
 returns : tie.Need-returns
 unfolding objectName byteOf factsOf
-returns c = let rs = treeOf (c .before .before .before .before .before .before .before .before .before .before .args .table .now) in
-    where-so (nextIs (is rs Kind.AnonymousObjectKey)) (expect rs Kind.AnonymousObjectKey write) (expect rs Kind.Path (path rs 64) ▸ call Ws) _ (c .before .before .before .before .before .before .next-is .ensures) (c .before .before .before .before .before .if1 .taken) (c .before .before .token .ensures)
+returns c =
+    let then1 = c .before .before .before .before .before in
+    let start = then1 .before .before .before .before .before in
+    let rs = treeOf (start .args .table .now) in
+    where-so (nextIs (is rs Kind.AnonymousObjectKey)) (expect rs Kind.AnonymousObjectKey write) (expect rs Kind.Path (path rs 64) ▸ call Ws) _
+    (then1 .before .next-is .ensures) (then1 .if1 .taken) (c .before .before .token .ensures)
 
 returns-2 : tie.Need-returns-2
 unfolding objectName byteOf factsOf
-returns-2 c = let rs = treeOf (c .before .before .before .before .before .before .before .before .before .before .before .before .before .before .before .before .args .table .now) in
-    where-not (nextIs (is rs Kind.AnonymousObjectKey)) (expect rs Kind.AnonymousObjectKey write) (expect rs Kind.Path (path rs 64) ▸ call Ws) _ (c .before .before .before .before .before .before .before .before .before .before .before .before .next-is .ensures) (c .before .before .before .before .before .before .before .before .before .before .before .if1 .left) (c .before .before .before .before .before .before .before .before .next-path .ensures ▹ steady (c .before .before .ws .ensures))
+returns-2 c =
+    let at-next-path = c .before .before .before .before .before .before .before .before in
+    let else1 = at-next-path .before .before .before in
+    let start = else1 .before .before .before .before .before in
+    let rs = treeOf (start .args .table .now) in
+    where-not (nextIs (is rs Kind.AnonymousObjectKey)) (expect rs Kind.AnonymousObjectKey write) (expect rs Kind.Path (path rs 64) ▸ call Ws) _
+    (else1 .before .next-is .ensures) (else1 .if1 .left) (at-next-path .next-path .ensures ▹ steady (c .before .before .ws .ensures))
 
 pub object-name-spec : {M : Type 1} → statement M
 object-name-spec =

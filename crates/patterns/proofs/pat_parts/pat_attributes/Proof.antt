@@ -29,11 +29,18 @@ loop-holds c = starts
 
 loop-less : tie.Need-loop-less Inv-loop μ-loop
 unfolding byteOf factsOf
-loop-less c = falls (takes-falls (takes-plain (make Ws) (pump-takes _ write))) (c .before .before .before .before .before .before .next-is .ensures) (c .before .before .before .before .before .if1 .taken) (c .before .before .attribute .ensures)
+loop-less c =
+    let then1 = c .before .before .before .before .before in
+    falls (takes-falls (takes-plain (make Ws) (pump-takes _ write))) (then1 .before .next-is .ensures) (then1 .if1 .taken)
+    (c .before .before .attribute .ensures)
 
 loop-again : tie.Need-loop-again Inv-loop μ-loop
 unfolding byteOf factsOf
-loop-again c = goes-on (takes-falls (takes-plain (make Ws) (pump-takes _ write))) (c .before .before .before .before .before .before .next-is .ensures) (c .before .before .before .before .before .if1 .taken) (c .before .before .attribute .ensures) (c .before .before .before .before .before .before .before .loop .inv)
+loop-again c =
+    let then1 = c .before .before .before .before .before in
+    let at-loop = then1 .before .before in
+    goes-on (takes-falls (takes-plain (make Ws) (pump-takes _ write))) (then1 .before .next-is .ensures) (then1 .if1 .taken)
+    (c .before .before .attribute .ensures) (at-loop .loop .inv)
 
 same-length : tie.Need-same-length Inv-loop μ-loop
 unfolding byteOf factsOf

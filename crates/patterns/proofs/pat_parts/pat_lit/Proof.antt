@@ -9,8 +9,14 @@ use Rattle.patterns.proofs.pat_parts.pat_lit.Tie as tie
 
 returns : tie.Need-returns
 unfolding patLit byteOf factsOf
-returns c = let rs = treeOf (c .before .before .before .before .before .before .before .before .before .before .before .before .before .before .before .args .table .now) in
-    parsed rs (patLit rs) (c .before .before .before .before .before .before .before .before .before .before .before .records-of .ensures) (c .before .before .before .before .before .before .before .before .token-if .ensures ▹ c .before .before .before .any .ensures) (c .left-over .ensures .ran _ (c .before .before .before .any .last .1 .1 .0) (c .before .before .before .any .last .1 .1 .1 .0))
+returns c =
+    let at-any = c .before .before .before in
+    let at-token-if = at-any .before .before .before .before .before in
+    let at-records-of = at-token-if .before .before .before in
+    let start = at-records-of .before .before .before .before in
+    let rs = treeOf (start .args .table .now) in
+    parsed rs (patLit rs) (at-records-of .records-of .ensures) (at-token-if .token-if .ensures ▹ at-any .any .ensures)
+    (c .left-over .ensures .ran _ (at-any .any .last .1 .1 .0) (at-any .any .last .1 .1 .1 .0))
 
 pub pat-lit-spec : {M : Type 1} → statement M
 pat-lit-spec =

@@ -15,13 +15,22 @@ use Rattle.patterns.proofs.pat_parts.tuple_path.Tie as tie
 
 returns : tie.Need-returns
 unfolding eatByte byteOf factsOf
-returns c = let rs = treeOf (c .before .before .before .before .before .before .before .before .before .before .before .before .before .args .table .now) in
-    stepped (takeIf (is rs Kind.Path)) (path rs 64) (λ (s : Stream). nothing) (c .before .before .before .before .before .before .before .before .before .eat .ensures .found) (c .before .before .before .before .before .before .before .before .before .eat .ensures .rest) (found-at (path rs 64) nothing (c .before .before .before .before .before .before .found .given .1) (c .before .before .path .ensures))
+returns c =
+    let at-found = c .before .before .before .before .before .before in
+    let at-eat = at-found .before .before .before in
+    let start = at-eat .before .before .before .before in
+    let rs = treeOf (start .args .table .now) in
+    stepped (takeIf (is rs Kind.Path)) (path rs 64) (λ (s : Stream). nothing) (at-eat .eat .ensures .found) (at-eat .eat .ensures .rest)
+    (found-at (path rs 64) nothing (at-found .found .given .1) (c .before .before .path .ensures))
 
 returns-2 : tie.Need-returns-2
 unfolding eatByte byteOf factsOf
-returns-2 c = let rs = treeOf (c .before .before .before .before .before .before .before .args .table .now) in
-    stepped (takeIf (is rs Kind.Path)) (path rs 64) (λ (s : Stream). nothing) (c .before .before .before .eat .ensures .found) (c .before .before .before .eat .ensures .rest) (found-none (path rs 64) nothing (c .enum-told .given .1) chain.still)
+returns-2 c =
+    let at-eat = c .before .before .before in
+    let start = at-eat .before .before .before .before in
+    let rs = treeOf (start .args .table .now) in
+    stepped (takeIf (is rs Kind.Path)) (path rs 64) (λ (s : Stream). nothing) (at-eat .eat .ensures .found) (at-eat .eat .ensures .rest)
+    (found-none (path rs 64) nothing (c .enum-told .given .1) chain.still)
 
 pub tuple-path-spec : {M : Type 1} → statement M
 tuple-path-spec =

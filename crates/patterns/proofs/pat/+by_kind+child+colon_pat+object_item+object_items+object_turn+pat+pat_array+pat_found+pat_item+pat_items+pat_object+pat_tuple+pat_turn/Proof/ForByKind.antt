@@ -24,35 +24,105 @@ module _ (t : ℕ) where
 
   returns : lts.Need-returns claims (by-kind-at t) by-kind.Post
   unfolding patChild byteOf factsOf
-  returns c = if-so _ _ (c .before .before .before .before .before .before .is-kind .ensures) (c .before .before .before .before .before .if1 .taken) (c .before .before .pat-lit .ensures)
+  returns c =
+      let then1 = c .before .before .before .before .before in
+      if-so _ _ (then1 .before .is-kind .ensures) (then1 .if1 .taken) (c .before .before .pat-lit .ensures)
 
   returns-2 : lts.Need-returns-2 claims (by-kind-at t) by-kind.Post
   unfolding patChild byteOf factsOf
-  returns-2 c = if-not _ _ (c .before .before .before .before .before .before .before .before .is-kind .ensures) (c .before .before .before .before .before .before .before .if1 .left) (if-so _ _ (c .before .before .before .before .before .before .is-kind2 .ensures) (c .before .before .before .before .before .if2 .taken) (c .before .before .write-owned .ensures))
+  returns-2 c =
+      let then2 = c .before .before .before .before .before in
+      let else1 = then2 .before .before in
+      if-not _ _ (else1 .before .is-kind .ensures) (else1 .if1 .left)
+      (if-so _ _ (then2 .before .is-kind2 .ensures) (then2 .if2 .taken) (c .before .before .write-owned .ensures))
 
   returns-3 : lts.Need-returns-3 claims (by-kind-at t) by-kind.Post
   unfolding patChild byteOf factsOf
-  returns-3 c = if-not _ _ (c .before .before .before .before .before .before .before .before .before .before .is-kind .ensures) (c .before .before .before .before .before .before .before .before .before .if1 .left) (if-not _ _ (c .before .before .before .before .before .before .before .before .is-kind2 .ensures) (c .before .before .before .before .before .before .before .if2 .left) (if-so _ _ (c .before .before .before .before .before .before .is-kind3 .ensures) (c .before .before .before .before .before .if3 .taken) (c .before .before .write-owned2 .ensures)))
+  returns-3 c =
+      let then3 = c .before .before .before .before .before in
+      let else2 = then3 .before .before in
+      let else1 = else2 .before .before in
+      if-not _ _ (else1 .before .is-kind .ensures) (else1 .if1 .left)
+      (if-not _ _ (else2 .before .is-kind2 .ensures) (else2 .if2 .left)
+      (if-so _ _ (then3 .before .is-kind3 .ensures) (then3 .if3 .taken) (c .before .before .write-owned2 .ensures)))
 
   returns-4 : lts.Need-returns-4 claims (by-kind-at t) by-kind.Post
   unfolding patChild byteOf factsOf
-  returns-4 c = if-not _ _ (c .before .before .before .before .before .before .before .before .before .before .before .before .is-kind .ensures) (c .before .before .before .before .before .before .before .before .before .before .before .if1 .left) (if-not _ _ (c .before .before .before .before .before .before .before .before .before .before .is-kind2 .ensures) (c .before .before .before .before .before .before .before .before .before .if2 .left) (if-not _ _ (c .before .before .before .before .before .before .before .before .is-kind3 .ensures) (c .before .before .before .before .before .before .before .if3 .left) (if-so _ _ (c .before .before .before .before .before .before .is-kind4 .ensures) (c .before .before .before .before .before .if4 .taken) (c .before .before .path .ensures))))
+  returns-4 c =
+      let then4 = c .before .before .before .before .before in
+      let else3 = then4 .before .before in
+      let else2 = else3 .before .before in
+      let else1 = else2 .before .before in
+      if-not _ _ (else1 .before .is-kind .ensures) (else1 .if1 .left)
+      (if-not _ _ (else2 .before .is-kind2 .ensures) (else2 .if2 .left)
+      (if-not _ _ (else3 .before .is-kind3 .ensures) (else3 .if3 .left)
+      (if-so _ _ (then4 .before .is-kind4 .ensures) (then4 .if4 .taken) (c .before .before .path .ensures))))
 
   returns-5 : lts.Need-returns-5 claims (by-kind-at t) by-kind.Post
   unfolding patChild byteOf factsOf
-  returns-5 c = if-not _ _ (c .before .before .before .before .before .before .before .before .before .before .before .before .before .before .is-kind .ensures) (c .before .before .before .before .before .before .before .before .before .before .before .before .before .if1 .left) (if-not _ _ (c .before .before .before .before .before .before .before .before .before .before .before .before .is-kind2 .ensures) (c .before .before .before .before .before .before .before .before .before .before .before .if2 .left) (if-not _ _ (c .before .before .before .before .before .before .before .before .before .before .is-kind3 .ensures) (c .before .before .before .before .before .before .before .before .before .if3 .left) (if-not _ _ (c .before .before .before .before .before .before .before .before .is-kind4 .ensures) (c .before .before .before .before .before .before .before .if4 .left) (if-so _ _ (c .before .before .before .before .before .before .is-kind5 .ensures) (c .before .before .before .before .before .if5 .taken) (c .before .before .pat-array .ensures)))))
+  returns-5 c =
+      let then5 = c .before .before .before .before .before in
+      let else4 = then5 .before .before in
+      let else3 = else4 .before .before in
+      let else2 = else3 .before .before in
+      let else1 = else2 .before .before in
+      if-not _ _ (else1 .before .is-kind .ensures) (else1 .if1 .left)
+      (if-not _ _ (else2 .before .is-kind2 .ensures) (else2 .if2 .left)
+      (if-not _ _ (else3 .before .is-kind3 .ensures) (else3 .if3 .left)
+      (if-not _ _ (else4 .before .is-kind4 .ensures) (else4 .if4 .left)
+      (if-so _ _ (then5 .before .is-kind5 .ensures) (then5 .if5 .taken) (c .before .before .pat-array .ensures)))))
 
   returns-6 : lts.Need-returns-6 claims (by-kind-at t) by-kind.Post
   unfolding patChild byteOf factsOf
-  returns-6 c = if-not _ _ (c .before .before .before .before .before .before .before .before .before .before .before .before .before .before .before .before .is-kind .ensures) (c .before .before .before .before .before .before .before .before .before .before .before .before .before .before .before .if1 .left) (if-not _ _ (c .before .before .before .before .before .before .before .before .before .before .before .before .before .before .is-kind2 .ensures) (c .before .before .before .before .before .before .before .before .before .before .before .before .before .if2 .left) (if-not _ _ (c .before .before .before .before .before .before .before .before .before .before .before .before .is-kind3 .ensures) (c .before .before .before .before .before .before .before .before .before .before .before .if3 .left) (if-not _ _ (c .before .before .before .before .before .before .before .before .before .before .is-kind4 .ensures) (c .before .before .before .before .before .before .before .before .before .if4 .left) (if-not _ _ (c .before .before .before .before .before .before .before .before .is-kind5 .ensures) (c .before .before .before .before .before .before .before .if5 .left) (if-so _ _ (c .before .before .before .before .before .before .is-kind6 .ensures) (c .before .before .before .before .before .if6 .taken) (c .before .before .pat-tuple .ensures))))))
+  returns-6 c =
+      let then6 = c .before .before .before .before .before in
+      let else5 = then6 .before .before in
+      let else4 = else5 .before .before in
+      let else3 = else4 .before .before in
+      let else2 = else3 .before .before in
+      let else1 = else2 .before .before in
+      if-not _ _ (else1 .before .is-kind .ensures) (else1 .if1 .left)
+      (if-not _ _ (else2 .before .is-kind2 .ensures) (else2 .if2 .left)
+      (if-not _ _ (else3 .before .is-kind3 .ensures) (else3 .if3 .left)
+      (if-not _ _ (else4 .before .is-kind4 .ensures) (else4 .if4 .left)
+      (if-not _ _ (else5 .before .is-kind5 .ensures) (else5 .if5 .left)
+      (if-so _ _ (then6 .before .is-kind6 .ensures) (then6 .if6 .taken) (c .before .before .pat-tuple .ensures))))))
 
   returns-7 : lts.Need-returns-7 claims (by-kind-at t) by-kind.Post
   unfolding patChild byteOf factsOf
-  returns-7 c = if-not _ _ (c .before .before .before .before .before .before .before .before .before .before .before .before .before .before .before .before .before .before .is-kind .ensures) (c .before .before .before .before .before .before .before .before .before .before .before .before .before .before .before .before .before .if1 .left) (if-not _ _ (c .before .before .before .before .before .before .before .before .before .before .before .before .before .before .before .before .is-kind2 .ensures) (c .before .before .before .before .before .before .before .before .before .before .before .before .before .before .before .if2 .left) (if-not _ _ (c .before .before .before .before .before .before .before .before .before .before .before .before .before .before .is-kind3 .ensures) (c .before .before .before .before .before .before .before .before .before .before .before .before .before .if3 .left) (if-not _ _ (c .before .before .before .before .before .before .before .before .before .before .before .before .is-kind4 .ensures) (c .before .before .before .before .before .before .before .before .before .before .before .if4 .left) (if-not _ _ (c .before .before .before .before .before .before .before .before .before .before .is-kind5 .ensures) (c .before .before .before .before .before .before .before .before .before .if5 .left) (if-not _ _ (c .before .before .before .before .before .before .before .before .is-kind6 .ensures) (c .before .before .before .before .before .before .before .if6 .left) (if-so _ _ (c .before .before .before .before .before .before .is-kind7 .ensures) (c .before .before .before .before .before .if7 .taken) (c .before .before .pat-object .ensures)))))))
+  returns-7 c =
+      let then7 = c .before .before .before .before .before in
+      let else6 = then7 .before .before in
+      let else5 = else6 .before .before in
+      let else4 = else5 .before .before in
+      let else3 = else4 .before .before in
+      let else2 = else3 .before .before in
+      let else1 = else2 .before .before in
+      if-not _ _ (else1 .before .is-kind .ensures) (else1 .if1 .left)
+      (if-not _ _ (else2 .before .is-kind2 .ensures) (else2 .if2 .left)
+      (if-not _ _ (else3 .before .is-kind3 .ensures) (else3 .if3 .left)
+      (if-not _ _ (else4 .before .is-kind4 .ensures) (else4 .if4 .left)
+      (if-not _ _ (else5 .before .is-kind5 .ensures) (else5 .if5 .left)
+      (if-not _ _ (else6 .before .is-kind6 .ensures) (else6 .if6 .left)
+      (if-so _ _ (then7 .before .is-kind7 .ensures) (then7 .if7 .taken) (c .before .before .pat-object .ensures)))))))
 
   returns-8 : lts.Need-returns-8 claims (by-kind-at t) by-kind.Post
   unfolding patChild byteOf factsOf
-  returns-8 c = if-not _ _ (c .before .before .before .before .before .before .before .before .before .before .before .before .before .before .is-kind .ensures) (c .before .before .before .before .before .before .before .before .before .before .before .before .before .if1 .left) (if-not _ _ (c .before .before .before .before .before .before .before .before .before .before .before .before .is-kind2 .ensures) (c .before .before .before .before .before .before .before .before .before .before .before .if2 .left) (if-not _ _ (c .before .before .before .before .before .before .before .before .before .before .is-kind3 .ensures) (c .before .before .before .before .before .before .before .before .before .if3 .left) (if-not _ _ (c .before .before .before .before .before .before .before .before .is-kind4 .ensures) (c .before .before .before .before .before .before .before .if4 .left) (if-not _ _ (c .before .before .before .before .before .before .is-kind5 .ensures) (c .before .before .before .before .before .if5 .left) (if-not _ _ (c .before .before .before .before .is-kind6 .ensures) (c .before .before .before .if6 .left) (if-not _ _ (c .before .before .is-kind7 .ensures) (c .before .if7 .left) (c .refuse .ensures .ran _ (c .before .before .before .before .before .before .before .before .before .before .before .before .before .before .before .before .before .before .args .queue .now) (c .before .before .before .before .before .before .before .before .before .before .before .before .before .before .before .before .before .before .args .out .now))))))))
+  returns-8 c =
+      let else6 = c .before .before .before in
+      let else5 = else6 .before .before in
+      let else4 = else5 .before .before in
+      let else3 = else4 .before .before in
+      let else2 = else3 .before .before in
+      let else1 = else2 .before .before in
+      let start = else1 .before .before .before .before .before in
+      if-not _ _ (else1 .before .is-kind .ensures) (else1 .if1 .left)
+      (if-not _ _ (else2 .before .is-kind2 .ensures) (else2 .if2 .left)
+      (if-not _ _ (else3 .before .is-kind3 .ensures) (else3 .if3 .left)
+      (if-not _ _ (else4 .before .is-kind4 .ensures) (else4 .if4 .left)
+      (if-not _ _ (else5 .before .is-kind5 .ensures) (else5 .if5 .left)
+      (if-not _ _ (else6 .before .is-kind6 .ensures) (else6 .if6 .left)
+      (if-not _ _ (c .before .before .is-kind7 .ensures) (c .before .if7 .left) (c .refuse .ensures .ran _ (start .args .queue .now) (start .args .out .now))))))))
 
   same-length : lts.Need-same-length claims (by-kind-at t) by-kind.Post
   same-length c = chain.keeps (c .before .before .pat-lit .ensures)

@@ -21,13 +21,24 @@ module _ (t : ℕ) where
 
   returns : lts.Need-returns claims (child-at t) child.Post
   unfolding pump
-  returns c = let rule = patChild (treeOf (c .before .before .before .before .before .before .before .before .before .before .before .before .before .args .table .now)) (rule.pat (treeOf (c .before .before .before .before .before .before .before .before .before .before .before .before .before .args .table .now)) (c .before .before .before .before .before .before .before .before .before .before .before .before .before .args .depth)) in
-      stepped takeAny rule notMet (c .before .before .before .before .before .before .before .before .before .take-any .ensures .found) (c .before .before .before .before .before .before .before .before .before .take-any .ensures .rest) (found-at rule _ (c .before .before .before .before .before .before .found .given .1) (c .before .before .by-kind .ensures))
+  returns c =
+      let at-found = c .before .before .before .before .before .before in
+      let at-take-any = at-found .before .before .before in
+      let start = at-take-any .before .before .before .before in
+      let rs = treeOf (start .args .table .now) in
+      let rule = patChild rs (rule.pat rs (start .args .depth)) in
+      stepped takeAny rule notMet (at-take-any .take-any .ensures .found) (at-take-any .take-any .ensures .rest)
+      (found-at rule _ (at-found .found .given .1) (c .before .before .by-kind .ensures))
 
   returns-2 : lts.Need-returns-2 claims (child-at t) child.Post
   unfolding pump
-  returns-2 c = let rule = patChild (treeOf (c .before .before .before .before .before .before .before .before .args .table .now)) (rule.pat (treeOf (c .before .before .before .before .before .before .before .before .args .table .now)) (c .before .before .before .before .before .before .before .before .args .depth)) in
-      stepped takeAny rule notMet (c .before .before .before .before .take-any .ensures .found) (c .before .before .before .before .take-any .ensures .rest) (found-none rule _ (c .before .enum-told .given .1) (c .not-met .ensures .ran _ (c .before .before .before .before .before .before .before .before .args .queue .now) (c .before .before .before .before .before .before .before .before .args .out .now)))
+  returns-2 c =
+      let at-take-any = c .before .before .before .before in
+      let start = at-take-any .before .before .before .before in
+      let rs = treeOf (start .args .table .now) in
+      let rule = patChild rs (rule.pat rs (start .args .depth)) in
+      stepped takeAny rule notMet (at-take-any .take-any .ensures .found) (at-take-any .take-any .ensures .rest)
+      (found-none rule _ (c .before .enum-told .given .1) (c .not-met .ensures .ran _ (start .args .queue .now) (start .args .out .now)))
 
   same-length : lts.Need-same-length claims (child-at t) child.Post
   same-length c = chain.keeps (c .before .before .by-kind .ensures)

@@ -30,21 +30,38 @@ module _ (t : ℕ) where
   claims = (next-is-reads.Asked, next-is-reads.Learnt, any-reads.Asked, any-reads.Learnt, ws-reads.Asked, ws-reads.Learnt, eat-reads.Asked, eat-reads.Learnt, pat-found-below t, pat-found.Post)
 
   pat-found-requires : lts.Need-pat-found-requires claims (colon-pat-at t) colon-pat.Post
-  pat-found-requires c κs = (omega (arith, c .before .before .before .before .before .before .before .before .before .before .before .before .before .before .before .before .before .before .before .pre .0), tt)
+  pat-found-requires c κs =
+      let start = c .before .before .before .before .before .before .before .before .before .before .before .before .before .before .before .before .before .before .before in
+      (omega (arith, start .pre .0), tt)
 
   returns : lts.Need-returns claims (colon-pat-at t) colon-pat.Post
   unfolding colonPat expectByte byteOf factsOf
-  returns c = let rs = treeOf (c .before .before .before .before .before .before .before .before .before .before .before .before .before .before .before .before .before .before .before .before .before .before .args .table .now) in let inner = rule.pat rs (c .before .before .before .before .before .before .before .before .before .before .before .before .before .before .before .before .before .before .before .before .before .before .args .depth) in
-      where-so (nextIs (is rs Kind.Colon)) (pump write ▸ call Ws ▸ expect rs Kind.Pat inner) (flow nothing) _ (c .before .before .before .before .before .before .before .before .before .before .before .before .before .before .before .before .before .before .next-is .ensures) (c .before .before .before .before .before .before .before .before .before .before .before .before .before .before .before .before .before .if1 .taken)
-      (c .before .before .before .before .before .before .before .before .before .before .before .before .before .before .any .ensures ▹ steady (c .before .before .before .before .before .before .before .before .before .ws .ensures) ▹ stepped (takeIf (is rs Kind.Pat)) inner notMet (c .before .before .before .before .before .before .eat .ensures .found) (c .before .before .before .before .before .before .eat .ensures .rest) (c .before .before .pat-found .ensures))
+  returns c =
+      let at-eat = c .before .before .before .before .before .before in
+      let at-ws = at-eat .before .before .before in
+      let at-any = at-ws .before .before .before .before .before in
+      let then1 = at-any .before .before .before in
+      let start = then1 .before .before .before .before .before in
+      let rs = treeOf (start .args .table .now) in
+      let inner = rule.pat rs (start .args .depth) in
+      where-so (nextIs (is rs Kind.Colon)) (pump write ▸ call Ws ▸ expect rs Kind.Pat inner) (flow nothing) _ (then1 .before .next-is .ensures)
+      (then1 .if1 .taken)
+      (at-any .any .ensures ▹ steady (at-ws .ws .ensures)
+      ▹ stepped (takeIf (is rs Kind.Pat)) inner notMet (at-eat .eat .ensures .found) (at-eat .eat .ensures .rest) (c .before .before .pat-found .ensures))
 
   returns-2 : lts.Need-returns-2 claims (colon-pat-at t) colon-pat.Post
   unfolding colonPat byteOf factsOf
-  returns-2 c = let rs = treeOf (c .before .before .before .before .before .args .table .now) in
-      where-not (nextIs (is rs Kind.Colon)) (pump write ▸ call Ws ▸ expect rs Kind.Pat (rule.pat rs (c .before .before .before .before .before .args .depth))) (flow nothing) _ (c .before .next-is .ensures) (c .if1 .left) stands
+  returns-2 c =
+      let start = c .before .before .before .before .before in
+      let rs = treeOf (start .args .table .now) in
+      where-not (nextIs (is rs Kind.Colon)) (pump write ▸ call Ws ▸ expect rs Kind.Pat (rule.pat rs (start .args .depth))) (flow nothing) _
+      (c .before .next-is .ensures) (c .if1 .left) stands
 
   same-length : lts.Need-same-length claims (colon-pat-at t) colon-pat.Post
-  same-length c = chain.keeps (c .before .before .pat-found .ensures) ∙ chain.keeps (c .before .before .before .before .before .before .before .before .before .ws .ensures) ∙ keeps (c .before .before .before .before .before .before .before .before .before .before .before .before .before .before .any .ensures)
+  same-length c =
+      let at-ws = c .before .before .before .before .before .before .before .before .before in
+      let at-any = at-ws .before .before .before .before .before in
+      chain.keeps (c .before .before .pat-found .ensures) ∙ chain.keeps (at-ws .ws .ensures) ∙ keeps (at-any .any .ensures)
 
   pub closed : {M : Type 1} → lts.Closed claims (colon-pat-at t) colon-pat.Post M
   closed = lts.spec claims (colon-pat-at t) colon-pat.Post (λ c κs. search needs) (λ c κs. search needs) (λ c κs. search needs) (λ c κs. search needs) pat-found-requires same-length returns returns-2

@@ -25,16 +25,27 @@ module _ (t : ℕ) where
 
   returns : lts.Need-returns claims (object-item-at t) object-item.Post
   unfolding objectItem isKey byteOf factsOf
-  returns c = let rs = treeOf (c .before .before .before .before .before .before .before .before .before .before .before .before .before .before .before .args .table .now) in
-      where-so (nextIs (is rs Kind.ObjectKey)) (pump write ▸ colonPat rs (rule.pat rs (c .before .before .before .before .before .before .before .before .before .before .before .before .before .before .before .args .depth))) (expect rs Kind.DotDot write) _ (c .before .before .before .before .before .before .before .before .before .before .before .next-is .ensures) (c .before .before .before .before .before .before .before .before .before .before .if1 .taken) (c .before .before .before .before .before .before .before .any .ensures ▹ c .before .before .colon-pat .ensures)
+  returns c =
+      let at-any = c .before .before .before .before .before .before .before in
+      let then1 = at-any .before .before .before in
+      let start = then1 .before .before .before .before .before in
+      let rs = treeOf (start .args .table .now) in
+      where-so (nextIs (is rs Kind.ObjectKey)) (pump write ▸ colonPat rs (rule.pat rs (start .args .depth))) (expect rs Kind.DotDot write) _
+      (then1 .before .next-is .ensures) (then1 .if1 .taken) (at-any .any .ensures ▹ c .before .before .colon-pat .ensures)
 
   returns-2 : lts.Need-returns-2 claims (object-item-at t) object-item.Post
   unfolding objectItem isKey byteOf factsOf
-  returns-2 c = let rs = treeOf (c .before .before .before .before .before .before .before .before .before .before .args .table .now) in
-      where-not (nextIs (is rs Kind.ObjectKey)) (pump write ▸ colonPat rs (rule.pat rs (c .before .before .before .before .before .before .before .before .before .before .args .depth))) (expect rs Kind.DotDot write) _ (c .before .before .before .before .before .before .next-is .ensures) (c .before .before .before .before .before .if1 .left) (c .before .before .token .ensures)
+  returns-2 c =
+      let else1 = c .before .before .before .before .before in
+      let start = else1 .before .before .before .before .before in
+      let rs = treeOf (start .args .table .now) in
+      where-not (nextIs (is rs Kind.ObjectKey)) (pump write ▸ colonPat rs (rule.pat rs (start .args .depth))) (expect rs Kind.DotDot write) _
+      (else1 .before .next-is .ensures) (else1 .if1 .left) (c .before .before .token .ensures)
 
   same-length : lts.Need-same-length claims (object-item-at t) object-item.Post
-  same-length c = keeps (c .before .before .colon-pat .ensures) ∙ keeps (c .before .before .before .before .before .before .before .any .ensures)
+  same-length c =
+      let at-any = c .before .before .before .before .before .before .before in
+      keeps (c .before .before .colon-pat .ensures) ∙ keeps (at-any .any .ensures)
 
   same-length-2 : lts.Need-same-length-2 claims (object-item-at t) object-item.Post
   same-length-2 c = keeps (c .before .before .token .ensures)

@@ -31,10 +31,15 @@ module _ (t : ℕ) where
   loop-holds c = starts
 
   loop-less : lts.Need-loop-less claims (object-items-at t) object-items.Post Inv-loop μ-loop
-  loop-less c = falls (object-falls _ _) (c .before .before .before .before .before .before .key-or-dots .ensures) (c .before .before .before .before .before .if1 .taken) (c .before .before .object-turn .ensures)
+  loop-less c =
+      let then1 = c .before .before .before .before .before in
+      falls (object-falls _ _) (then1 .before .key-or-dots .ensures) (then1 .if1 .taken) (c .before .before .object-turn .ensures)
 
   loop-again : lts.Need-loop-again claims (object-items-at t) object-items.Post Inv-loop μ-loop
-  loop-again c = goes-on (object-falls _ _) (c .before .before .before .before .before .before .key-or-dots .ensures) (c .before .before .before .before .before .if1 .taken) (c .before .before .object-turn .ensures) (c .before .before .before .before .before .before .before .loop .inv)
+  loop-again c =
+      let then1 = c .before .before .before .before .before in
+      let at-loop = then1 .before .before in
+      goes-on (object-falls _ _) (then1 .before .key-or-dots .ensures) (then1 .if1 .taken) (c .before .before .object-turn .ensures) (at-loop .loop .inv)
 
   returns : lts.Need-returns claims (object-items-at t) object-items.Post Inv-loop μ-loop
   returns c = done (c .before .key-or-dots .ensures) (c .if1 .left) (c .before .before .loop .inv)

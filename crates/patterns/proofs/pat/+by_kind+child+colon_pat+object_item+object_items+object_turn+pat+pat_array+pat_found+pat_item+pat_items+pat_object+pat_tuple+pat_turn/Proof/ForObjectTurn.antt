@@ -21,10 +21,18 @@ module _ (t : ℕ) where
 
   returns : lts.Need-returns claims (object-turn-at t) object-turn.Post
   unfolding turn keyed
-  returns c = itemed (treeOf (c .before .before .before .before .before .before .before .before .before .before .before .before .before .before .before .before .before .before .before .before .args .table .now)) (c .before .before .before .before .before .before .before .before .before .before .before .before .before .before .before .before .before .before .before .before .args .s) _ (steady (c .before .before .before .before .before .before .before .before .before .before .before .before .before .before .before-key .ensures) ▹ c .before .before .before .before .before .before .before .before .before .object-item .ensures) ▹ c .before .before .behind-key .ensures
+  returns c =
+      let at-object-item = c .before .before .before .before .before .before .before .before .before in
+      let at-before-key = at-object-item .before .before .before .before .before in
+      let start = at-before-key .before .before .before .before .before .before in
+      itemed (treeOf (start .args .table .now)) (start .args .s) _ (steady (at-before-key .before-key .ensures) ▹ at-object-item .object-item .ensures)
+      ▹ c .before .before .behind-key .ensures
 
   same-length : lts.Need-same-length claims (object-turn-at t) object-turn.Post
-  same-length c = keeps (c .before .before .behind-key .ensures) ∙ keeps (c .before .before .before .before .before .before .before .before .before .object-item .ensures) ∙ chain.keeps (c .before .before .before .before .before .before .before .before .before .before .before .before .before .before .before-key .ensures)
+  same-length c =
+      let at-object-item = c .before .before .before .before .before .before .before .before .before in
+      let at-before-key = at-object-item .before .before .before .before .before in
+      keeps (c .before .before .behind-key .ensures) ∙ keeps (at-object-item .object-item .ensures) ∙ chain.keeps (at-before-key .before-key .ensures)
 
   pub closed : {M : Type 1} → lts.Closed claims (object-turn-at t) object-turn.Post M
   closed = lts.spec claims (object-turn-at t) object-turn.Post (λ c κs. search needs) (λ c κs. search needs) (λ c κs. search needs) same-length returns

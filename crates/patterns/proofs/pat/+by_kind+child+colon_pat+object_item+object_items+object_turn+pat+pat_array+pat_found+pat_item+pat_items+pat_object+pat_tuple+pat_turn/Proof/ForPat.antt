@@ -19,15 +19,28 @@ module _ (t : ℕ) where
   claims = (refuse-reads.Asked, refuse-reads.Learnt, records-of-reads.Asked, records-of-reads.Learnt, pat-attributes-reads.Asked, pat-attributes-reads.Learnt, child-below t, child.Post, left-over-reads.Asked, left-over-reads.Learnt)
 
   returns : lts.Need-returns claims (pat-at t) pat.Post
-  returns c = too-deep (treeOf (c .before .before .before .before .before .args .table .now)) (c .before .before .before .before .before .args .depth) (c .before .before .before .before .before .args .k) (c .before .before .before .before .before .args .queue .now) (c .before .before .before .before .before .args .out .now) (c .before .if1 .taken) (c .refuse .ensures)
+  returns c =
+      let start = c .before .before .before .before .before in
+      too-deep (treeOf (start .args .table .now)) (start .args .depth) (start .args .k) (start .args .queue .now) (start .args .out .now)
+      (c .before .if1 .taken) (c .refuse .ensures)
 
   returns-2 : lts.Need-returns-2 claims (pat-at t) pat.Post
-  returns-2 c = let rs = treeOf (c .before .before .before .before .before .before .before .before .before .before .before .before .before .before .before .before .args .table .now) in
-      deep rs (c .before .before .before .before .before .before .before .before .before .before .before .before .before .before .before .before .args .depth) (c .before .before .before .before .before .before .before .before .before .before .before .before .before .before .before .before .args .k) (c .before .before .before .before .before .before .before .before .before .before .before .before .if1 .left)
-      (parsed rs _ (c .before .before .before .before .before .before .before .before .before .before .before .records-of .ensures) (c .before .before .before .before .before .before .before .before .pat-attributes .ensures ▹ c .before .before .before .child .ensures) (c .left-over .ensures .ran _ (c .before .before .before .child .last .1 .1 .0) (c .before .before .before .child .last .1 .1 .1 .0)))
+  returns-2 c =
+      let at-child = c .before .before .before in
+      let at-pat-attributes = at-child .before .before .before .before .before in
+      let at-records-of = at-pat-attributes .before .before .before in
+      let else1 = at-records-of .before in
+      let start = else1 .before .before .before .before in
+      let rs = treeOf (start .args .table .now) in
+      deep rs (start .args .depth) (start .args .k) (else1 .if1 .left)
+      (parsed rs _ (at-records-of .records-of .ensures) (at-pat-attributes .pat-attributes .ensures ▹ at-child .child .ensures)
+      (c .left-over .ensures .ran _ (at-child .child .last .1 .1 .0) (at-child .child .last .1 .1 .1 .0)))
 
   same-length : lts.Need-same-length claims (pat-at t) pat.Post
-  same-length c = keeps (c .before .before .before .child .ensures) ∙ keeps (c .before .before .before .before .before .before .before .before .pat-attributes .ensures)
+  same-length c =
+      let at-child = c .before .before .before in
+      let at-pat-attributes = at-child .before .before .before .before .before in
+      keeps (at-child .child .ensures) ∙ keeps (at-pat-attributes .pat-attributes .ensures)
 
   pub closed : {M : Type 1} → lts.Closed claims (pat-at t) pat.Post M
   closed = lts.spec claims (pat-at t) pat.Post (λ c κs. search needs) returns (λ c κs. search needs) (λ c κs. search needs) (λ c. search needs) (λ c κs. search needs) (λ c κs. search needs) same-length returns-2

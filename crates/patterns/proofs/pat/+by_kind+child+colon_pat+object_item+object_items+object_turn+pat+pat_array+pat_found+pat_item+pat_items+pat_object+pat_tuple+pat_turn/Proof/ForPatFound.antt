@@ -15,10 +15,16 @@ module _ (t : ℕ) where
   claims = (pat-below t, pat.Post, not-met-reads.Asked, not-met-reads.Learnt)
 
   returns : lts.Need-returns claims (pat-found-at t) pat-found.Post
-  returns c = found-at (rule.pat _ (c .before .before .before .before .before .before .before .before .before .before .before .args .depth)) _ (c .before .before .before .before .before .before .found .given .1) (c .before .before .pat .ensures)
+  returns c =
+      let at-found = c .before .before .before .before .before .before in
+      let start = at-found .before .before .before .before .before in
+      found-at (rule.pat _ (start .args .depth)) _ (at-found .found .given .1) (c .before .before .pat .ensures)
 
   returns-2 : lts.Need-returns-2 claims (pat-found-at t) pat-found.Post
-  returns-2 c = found-none (rule.pat _ (c .before .before .before .before .before .before .args .depth)) _ (c .before .enum-told .given .1) (c .not-met .ensures .ran _ (c .before .before .before .before .before .before .args .queue .now) (c .before .before .before .before .before .before .args .out .now))
+  returns-2 c =
+      let start = c .before .before .before .before .before .before in
+      found-none (rule.pat _ (start .args .depth)) _ (c .before .enum-told .given .1)
+      (c .not-met .ensures .ran _ (start .args .queue .now) (start .args .out .now))
 
   same-length : lts.Need-same-length claims (pat-found-at t) pat-found.Post
   same-length c = chain.keeps (c .before .before .pat .ensures)

@@ -23,13 +23,23 @@ module _ (t : ℕ) where
 
   returns : lts.Need-returns claims (pat-item-at t) pat-item.Post
   unfolding byteOf factsOf
-  returns c = let rs = treeOf (c .before .before .before .before .before .before .before .before .before .before .args .table .now) in item-dots rs (rule.pat rs (c .before .before .before .before .before .before .before .before .before .before .args .depth)) (streamOf rs (c .before .before .before .before .before .before .before .before .before .before .args .p)) (c .before .before .before .before .before .before .next-is .ensures) (c .before .before .before .before .before .if1 .taken) (c .before .before .any .ensures)
+  returns c =
+      let then1 = c .before .before .before .before .before in
+      let start = then1 .before .before .before .before .before in
+      let rs = treeOf (start .args .table .now) in
+      item-dots rs (rule.pat rs (start .args .depth)) (streamOf rs (start .args .p)) (then1 .before .next-is .ensures) (then1 .if1 .taken)
+      (c .before .before .any .ensures)
 
   returns-2 : lts.Need-returns-2 claims (pat-item-at t) pat-item.Post
   unfolding pump byteOf factsOf
-  returns-2 c = let rs = treeOf (c .before .before .before .before .before .before .before .before .before .before .before .before .args .table .now) in
-      item-pat rs (rule.pat rs (c .before .before .before .before .before .before .before .before .before .before .before .before .args .depth)) (streamOf rs (c .before .before .before .before .before .before .before .before .before .before .before .before .args .p)) (c .before .before .before .before .before .before .before .before .next-is .ensures) (c .before .before .before .before .before .before .before .if1 .left)
-      (stepped takeAny (rule.pat rs (c .before .before .before .before .before .before .before .before .before .before .before .before .args .depth)) notMet (c .before .before .before .before .before .before .take-any .ensures .found) (c .before .before .before .before .before .before .take-any .ensures .rest) (c .before .before .pat-found .ensures))
+  returns-2 c =
+      let at-take-any = c .before .before .before .before .before .before in
+      let else1 = at-take-any .before in
+      let start = else1 .before .before .before .before .before in
+      let rs = treeOf (start .args .table .now) in
+      item-pat rs (rule.pat rs (start .args .depth)) (streamOf rs (start .args .p)) (else1 .before .next-is .ensures) (else1 .if1 .left)
+      (stepped takeAny (rule.pat rs (start .args .depth)) notMet (at-take-any .take-any .ensures .found) (at-take-any .take-any .ensures .rest)
+      (c .before .before .pat-found .ensures))
 
   same-length : lts.Need-same-length claims (pat-item-at t) pat-item.Post
   same-length c = keeps (c .before .before .any .ensures)

@@ -31,10 +31,15 @@ module _ (t : ℕ) where
   loop-holds c = starts
 
   loop-less : lts.Need-loop-less claims (pat-items-at t) pat-items.Post Inv-loop μ-loop
-  loop-less c = falls (list-falls _ _ _) (c .before .before .before .before .before .before .pat-or-dots .ensures) (c .before .before .before .before .before .if1 .taken) (c .before .before .pat-turn .ensures)
+  loop-less c =
+      let then1 = c .before .before .before .before .before in
+      falls (list-falls _ _ _) (then1 .before .pat-or-dots .ensures) (then1 .if1 .taken) (c .before .before .pat-turn .ensures)
 
   loop-again : lts.Need-loop-again claims (pat-items-at t) pat-items.Post Inv-loop μ-loop
-  loop-again c = goes-on (list-falls _ _ _) (c .before .before .before .before .before .before .pat-or-dots .ensures) (c .before .before .before .before .before .if1 .taken) (c .before .before .pat-turn .ensures) (c .before .before .before .before .before .before .before .loop .inv)
+  loop-again c =
+      let then1 = c .before .before .before .before .before in
+      let at-loop = then1 .before .before in
+      goes-on (list-falls _ _ _) (then1 .before .pat-or-dots .ensures) (then1 .if1 .taken) (c .before .before .pat-turn .ensures) (at-loop .loop .inv)
 
   returns : lts.Need-returns claims (pat-items-at t) pat-items.Post Inv-loop μ-loop
   returns c = done (c .before .pat-or-dots .ensures) (c .if1 .left) (c .before .before .loop .inv)

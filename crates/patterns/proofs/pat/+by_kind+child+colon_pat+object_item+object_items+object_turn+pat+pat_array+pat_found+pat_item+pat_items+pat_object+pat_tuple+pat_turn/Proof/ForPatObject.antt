@@ -26,17 +26,37 @@ module _ (t : ℕ) where
   claims = (records-of-reads.Asked, records-of-reads.Learnt, object-name-reads.Asked, object-name-reads.Learnt, token-reads.Asked, token-reads.Learnt, first-reads.Asked, first-reads.Learnt, object-items-below t, object-items.Post, object-end-reads.Asked, object-end-reads.Learnt, brace-end-reads.Asked, brace-end-reads.Learnt, left-over-reads.Asked, left-over-reads.Learnt)
 
   object-items-requires : lts.Need-object-items-requires claims (pat-object-at t) pat-object.Post
-  object-items-requires c κs = (omega (arith, c .before .before .before .before .before .before .before .before .before .before .before .before .before .before .before .before .before .pre .0), tt)
+  object-items-requires c κs =
+      let start = c .before .before .before .before .before .before .before .before .before .before .before .before .before .before .before .before .before in
+      (omega (arith, start .pre .0), tt)
 
   returns : lts.Need-returns claims (pat-object-at t) pat-object.Post
   unfolding patObject items byteOf factsOf
-  returns c = let rs = treeOf (c .before .before .before .before .before .before .before .before .before .before .before .before .before .before .before .before .before .before .before .before .before .before .before .before .before .before .before .before .before .before .before .args .table .now) in
-      parsed rs _ (c .before .before .before .before .before .before .before .before .before .before .before .before .before .before .before .before .before .before .before .before .before .before .before .before .before .before .before .records-of .ensures)
-      (c .before .before .before .before .before .before .before .before .before .before .before .before .before .before .before .before .before .before .before .before .before .before .before .before .object-name .ensures ▹ c .before .before .before .before .before .before .before .before .before .before .before .before .before .before .before .before .before .before .before .token .ensures ▹ (begun rs (c .before .before .before .before .before .before .before .before .before .before .before .before .before .before .before .before .before .before .before .token .last .1 .1 .0) (c .before .before .before .before .before .before .before .before .before .before .before .before .before .before .before .before .before .before .before .token .last .1 .1 .1 .0) (c .before .before .before .before .before .before .before .before .before .before .before .before .before .before .first .ensures) ▹ c .before .before .before .before .before .before .before .before .before .before .before .before .before .object-items .ensures) ▹ c .before .before .before .before .before .before .before .before .object-end .ensures ▹ c .before .before .before .brace-end .ensures)
-      (c .left-over .ensures .ran _ (c .before .before .before .brace-end .last .1 .1 .0) (c .before .before .before .brace-end .last .1 .1 .1 .0))
+  returns c =
+      let at-brace-end = c .before .before .before in
+      let at-object-end = at-brace-end .before .before .before .before .before in
+      let at-object-items = at-object-end .before .before .before .before .before in
+      let at-first = at-object-items .before in
+      let at-token = at-first .before .before .before .before .before in
+      let at-object-name = at-token .before .before .before .before .before in
+      let at-records-of = at-object-name .before .before .before in
+      let start = at-records-of .before .before .before .before in
+      let rs = treeOf (start .args .table .now) in
+      parsed rs _ (at-records-of .records-of .ensures)
+      (at-object-name .object-name .ensures ▹ at-token .token .ensures
+      ▹ (begun rs (at-token .token .last .1 .1 .0) (at-token .token .last .1 .1 .1 .0) (at-first .first .ensures) ▹ at-object-items .object-items .ensures)
+      ▹ at-object-end .object-end .ensures ▹ at-brace-end .brace-end .ensures)
+      (c .left-over .ensures .ran _ (at-brace-end .brace-end .last .1 .1 .0) (at-brace-end .brace-end .last .1 .1 .1 .0))
 
   same-length : lts.Need-same-length claims (pat-object-at t) pat-object.Post
-  same-length c = keeps (c .before .before .before .brace-end .ensures) ∙ keeps (c .before .before .before .before .before .before .before .before .object-end .ensures) ∙ keeps (c .before .before .before .before .before .before .before .before .before .before .before .before .before .object-items .ensures) ∙ keeps (c .before .before .before .before .before .before .before .before .before .before .before .before .before .before .before .before .before .before .before .token .ensures) ∙ keeps (c .before .before .before .before .before .before .before .before .before .before .before .before .before .before .before .before .before .before .before .before .before .before .before .before .object-name .ensures)
+  same-length c =
+      let at-brace-end = c .before .before .before in
+      let at-object-end = at-brace-end .before .before .before .before .before in
+      let at-object-items = at-object-end .before .before .before .before .before in
+      let at-token = at-object-items .before .before .before .before .before .before in
+      let at-object-name = at-token .before .before .before .before .before in
+      keeps (at-brace-end .brace-end .ensures) ∙ keeps (at-object-end .object-end .ensures) ∙ keeps (at-object-items .object-items .ensures)
+      ∙ keeps (at-token .token .ensures) ∙ keeps (at-object-name .object-name .ensures)
 
   pub closed : {M : Type 1} → lts.Closed claims (pat-object-at t) pat-object.Post M
   closed = lts.spec claims (pat-object-at t) pat-object.Post (λ c κs. search needs) (λ c κs. search needs) (λ c κs. search needs) (λ c κs. search needs) object-items-requires (λ c κs. search needs) (λ c κs. search needs) (λ c κs. search needs) same-length returns

@@ -27,18 +27,39 @@ module _ (t : ℕ) where
   claims = (records-of-reads.Asked, records-of-reads.Learnt, next-is-reads.Asked, next-is-reads.Learnt, tuple-path-reads.Asked, tuple-path-reads.Learnt, token-reads.Asked, token-reads.Learnt, first-reads.Asked, first-reads.Learnt, pat-items-below t, pat-items.Post, tuple-end-reads.Asked, tuple-end-reads.Learnt, left-over-reads.Asked, left-over-reads.Learnt)
 
   pat-items-requires : lts.Need-pat-items-requires claims (pat-tuple-at t) pat-tuple.Post
-  pat-items-requires c κs = (omega (arith, c .before .before .before .before .before .before .before .before .before .before .before .before .before .before .before .before .before .before .pre .0), tt)
+  pat-items-requires c κs =
+      let start = c .before .before .before .before .before .before .before .before .before .before .before .before .before .before .before .before .before .before in
+      (omega (arith, start .pre .0), tt)
 
   returns : lts.Need-returns claims (pat-tuple-at t) pat-tuple.Post
   unfolding tupleRule items byteOf factsOf
-  returns c = let rs = treeOf (c .before .before .before .before .before .before .before .before .before .before .before .before .before .before .before .before .before .before .before .before .before .before .before .before .before .before .before .before .before .before .before .before .args .table .now) in
-      parsed rs _ (c .before .before .before .before .before .before .before .before .before .before .before .before .before .before .before .before .before .before .before .before .before .before .before .before .before .before .before .before .records-of .ensures)
-      (tuple-of rs _ (c .before .before .before .before .before .before .before .before .before .before .before .before .before .before .before .before .before .before .before .before .before .before .before .before .before .before .before .next-is .ensures)
-      (c .before .before .before .before .before .before .before .before .before .before .before .before .before .before .before .before .before .before .before .before .before .before .before .before .tuple-path .ensures ▹ c .before .before .before .before .before .before .before .before .before .before .before .before .before .before .before .before .before .before .before .token .ensures ▹ (begun rs (c .before .before .before .before .before .before .before .before .before .before .before .before .before .before .before .before .before .before .before .token .last .1 .1 .0) (c .before .before .before .before .before .before .before .before .before .before .before .before .before .before .before .before .before .before .before .token .last .1 .1 .1 .0) (c .before .before .before .before .before .before .before .before .before .before .before .before .before .before .first .ensures) ▹ c .before .before .before .before .before .before .before .before .before .before .before .before .before .pat-items .ensures) ▹ c .before .before .before .before .before .before .before .before .tuple-end .ensures ▹ c .before .before .before .token2 .ensures))
-      (c .left-over .ensures .ran _ (c .before .before .before .token2 .last .1 .1 .0) (c .before .before .before .token2 .last .1 .1 .1 .0))
+  returns c =
+      let at-token2 = c .before .before .before in
+      let at-tuple-end = at-token2 .before .before .before .before .before in
+      let at-pat-items = at-tuple-end .before .before .before .before .before in
+      let at-first = at-pat-items .before in
+      let at-token = at-first .before .before .before .before .before in
+      let at-tuple-path = at-token .before .before .before .before .before in
+      let at-next-is = at-tuple-path .before .before .before in
+      let at-records-of = at-next-is .before in
+      let start = at-records-of .before .before .before .before in
+      let rs = treeOf (start .args .table .now) in
+      parsed rs _ (at-records-of .records-of .ensures)
+      (tuple-of rs _ (at-next-is .next-is .ensures)
+      (at-tuple-path .tuple-path .ensures ▹ at-token .token .ensures
+      ▹ (begun rs (at-token .token .last .1 .1 .0) (at-token .token .last .1 .1 .1 .0) (at-first .first .ensures) ▹ at-pat-items .pat-items .ensures)
+      ▹ at-tuple-end .tuple-end .ensures ▹ at-token2 .token2 .ensures))
+      (c .left-over .ensures .ran _ (at-token2 .token2 .last .1 .1 .0) (at-token2 .token2 .last .1 .1 .1 .0))
 
   same-length : lts.Need-same-length claims (pat-tuple-at t) pat-tuple.Post
-  same-length c = keeps (c .before .before .before .token2 .ensures) ∙ keeps (c .before .before .before .before .before .before .before .before .tuple-end .ensures) ∙ keeps (c .before .before .before .before .before .before .before .before .before .before .before .before .before .pat-items .ensures) ∙ keeps (c .before .before .before .before .before .before .before .before .before .before .before .before .before .before .before .before .before .before .before .token .ensures) ∙ keeps (c .before .before .before .before .before .before .before .before .before .before .before .before .before .before .before .before .before .before .before .before .before .before .before .before .tuple-path .ensures)
+  same-length c =
+      let at-token2 = c .before .before .before in
+      let at-tuple-end = at-token2 .before .before .before .before .before in
+      let at-pat-items = at-tuple-end .before .before .before .before .before in
+      let at-token = at-pat-items .before .before .before .before .before .before in
+      let at-tuple-path = at-token .before .before .before .before .before in
+      keeps (at-token2 .token2 .ensures) ∙ keeps (at-tuple-end .tuple-end .ensures) ∙ keeps (at-pat-items .pat-items .ensures)
+      ∙ keeps (at-token .token .ensures) ∙ keeps (at-tuple-path .tuple-path .ensures)
 
   pub closed : {M : Type 1} → lts.Closed claims (pat-tuple-at t) pat-tuple.Post M
   closed = lts.spec claims (pat-tuple-at t) pat-tuple.Post (λ c κs. search needs) (λ c κs. search needs) (λ c κs. search needs) (λ c κs. search needs) (λ c κs. search needs) pat-items-requires (λ c κs. search needs) (λ c κs. search needs) (λ c κs. search needs) same-length returns

@@ -20,10 +20,18 @@ module _ (t : ℕ) where
 
   returns : lts.Need-returns claims (pat-turn-at t) pat-turn.Post
   unfolding turn listed
-  returns c = itemed (treeOf (c .before .before .before .before .before .before .before .before .before .before .before .before .before .before .before .before .before .before .before .before .args .table .now)) (c .before .before .before .before .before .before .before .before .before .before .before .before .before .before .before .before .before .before .before .before .args .s) _ (steady (c .before .before .before .before .before .before .before .before .before .before .before .before .before .before .before-item .ensures) ▹ c .before .before .before .before .before .before .before .before .before .pat-item .ensures) ▹ c .before .before .behind-item .ensures
+  returns c =
+      let at-pat-item = c .before .before .before .before .before .before .before .before .before in
+      let at-before-item = at-pat-item .before .before .before .before .before in
+      let start = at-before-item .before .before .before .before .before .before in
+      itemed (treeOf (start .args .table .now)) (start .args .s) _ (steady (at-before-item .before-item .ensures) ▹ at-pat-item .pat-item .ensures)
+      ▹ c .before .before .behind-item .ensures
 
   same-length : lts.Need-same-length claims (pat-turn-at t) pat-turn.Post
-  same-length c = keeps (c .before .before .behind-item .ensures) ∙ keeps (c .before .before .before .before .before .before .before .before .before .pat-item .ensures) ∙ chain.keeps (c .before .before .before .before .before .before .before .before .before .before .before .before .before .before .before-item .ensures)
+  same-length c =
+      let at-pat-item = c .before .before .before .before .before .before .before .before .before in
+      let at-before-item = at-pat-item .before .before .before .before .before in
+      keeps (c .before .before .behind-item .ensures) ∙ keeps (at-pat-item .pat-item .ensures) ∙ chain.keeps (at-before-item .before-item .ensures)
 
   pub closed : {M : Type 1} → lts.Closed claims (pat-turn-at t) pat-turn.Post M
   closed = lts.spec claims (pat-turn-at t) pat-turn.Post (λ c κs. search needs) (λ c κs. search needs) (λ c κs. search needs) same-length returns
