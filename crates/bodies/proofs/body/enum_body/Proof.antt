@@ -16,11 +16,21 @@ use Rattle.bodies.proofs.body.enum_body.Tie as tie
 
 returns : tie.Need-returns
 unfolding enumBody byteOf factsOf
-returns c = where-so (nextIs (is (treeOf (c .before .before .before .before .before .before .before .before .before .before .args .table .now)) Kind.OpenBrace)) (variants (treeOf (c .before .before .before .before .before .before .before .before .before .before .args .table .now))) (plain (make (Lit Braces))) (streamOf (treeOf (c .before .before .before .before .before .before .before .before .before .before .args .table .now)) (c .before .before .before .before .before .before .before .before .before .before .args .p)) (c .before .before .before .before .before .before .next-is .ensures) (c .before .before .before .before .before .if1 .taken) (c .before .before .variants .ensures)
+returns c =
+    let then1 = c .before .before .before .before .before in
+    let start = then1 .before .before .before .before .before in
+    let rs = treeOf (start .args .table .now) in
+    where-so (nextIs (is rs Kind.OpenBrace)) (variants rs) (plain (make (Lit Braces))) (streamOf rs (start .args .p)) (then1 .before .next-is .ensures)
+    (then1 .if1 .taken) (c .before .before .variants .ensures)
 
 returns-2 : tie.Need-returns-2
 unfolding enumBody byteOf factsOf
-returns-2 c = where-not (nextIs (is (treeOf (c .before .before .before .before .before .before .before .before .before .before .args .table .now)) Kind.OpenBrace)) (variants (treeOf (c .before .before .before .before .before .before .before .before .before .before .args .table .now))) (plain (make (Lit Braces))) (streamOf (treeOf (c .before .before .before .before .before .before .before .before .before .before .args .table .now)) (c .before .before .before .before .before .before .before .before .before .before .args .p)) (c .before .before .before .before .before .before .next-is .ensures) (c .before .before .before .before .before .if1 .left) (steady (c .before .before .lit .ensures))
+returns-2 c =
+    let else1 = c .before .before .before .before .before in
+    let start = else1 .before .before .before .before .before in
+    let rs = treeOf (start .args .table .now) in
+    where-not (nextIs (is rs Kind.OpenBrace)) (variants rs) (plain (make (Lit Braces))) (streamOf rs (start .args .p)) (else1 .before .next-is .ensures)
+    (else1 .if1 .left) (steady (c .before .before .lit .ensures))
 
 pub enum-body-spec : {M : Type 1} → statement M
 enum-body-spec =

@@ -7,11 +7,19 @@ use Rattle.bodies.proofs.body.item_enum.Statement.{statement}
 use Rattle.bodies.proofs.body.item_enum.Tie as tie
 
 same-length : tie.Need-same-length
-same-length c = keeps (c .before .before .before .before .before .before .before .before .before .before .before .before .before .before .before .before .before .before .token .ensures ▹ c .before .before .before .before .before .before .before .before .before .before .before .before .before .spaced-if .ensures ▹ steady (c .before .before .before .before .before .before .before .ws .ensures) ▹ c .before .before .enum-body .ensures)
+same-length c =
+    let at-ws = c .before .before .before .before .before .before .before in
+    let at-spaced-if = at-ws .before .before .before .before .before .before in
+    let at-token = at-spaced-if .before .before .before .before .before in
+    keeps (at-token .token .ensures ▹ at-spaced-if .spaced-if .ensures ▹ steady (at-ws .ws .ensures) ▹ c .before .before .enum-body .ensures)
 
 returns : tie.Need-returns
 unfolding itemEnum byteOf factsOf
-returns c = c .before .before .before .before .before .before .before .before .before .before .before .before .before .before .before .before .before .before .token .ensures ▹ c .before .before .before .before .before .before .before .before .before .before .before .before .before .spaced-if .ensures ▹ steady (c .before .before .before .before .before .before .before .ws .ensures) ▹ c .before .before .enum-body .ensures
+returns c =
+    let at-ws = c .before .before .before .before .before .before .before in
+    let at-spaced-if = at-ws .before .before .before .before .before .before in
+    let at-token = at-spaced-if .before .before .before .before .before in
+    at-token .token .ensures ▹ at-spaced-if .spaced-if .ensures ▹ steady (at-ws .ws .ensures) ▹ c .before .before .enum-body .ensures
 
 pub item-enum-spec : {M : Type 1} → statement M
 item-enum-spec =

@@ -7,11 +7,17 @@ use Rattle.bodies.proofs.body.item_struct.Statement.{statement}
 use Rattle.bodies.proofs.body.item_struct.Tie as tie
 
 same-length : tie.Need-same-length
-same-length c = keeps (c .before .before .before .before .before .before .before .before .before .before .before .before .token .ensures ▹ c .before .before .before .before .before .before .before .spaced-if .ensures ▹ c .before .before .next-body .ensures)
+same-length c =
+    let at-spaced-if = c .before .before .before .before .before .before .before in
+    let at-token = at-spaced-if .before .before .before .before .before in
+    keeps (at-token .token .ensures ▹ at-spaced-if .spaced-if .ensures ▹ c .before .before .next-body .ensures)
 
 returns : tie.Need-returns
 unfolding itemStruct byteOf factsOf
-returns c = c .before .before .before .before .before .before .before .before .before .before .before .before .token .ensures ▹ c .before .before .before .before .before .before .before .spaced-if .ensures ▹ c .before .before .next-body .ensures
+returns c =
+    let at-spaced-if = c .before .before .before .before .before .before .before in
+    let at-token = at-spaced-if .before .before .before .before .before in
+    at-token .token .ensures ▹ at-spaced-if .spaced-if .ensures ▹ c .before .before .next-body .ensures
 
 pub item-struct-spec : {M : Type 1} → statement M
 item-struct-spec =

@@ -11,7 +11,13 @@ use Rattle.bodies.proofs.body.lined_variant.Tie as tie
 
 returns : tie.Need-returns
 unfolding turn lined
-returns c = itemed (treeOf (c .before .before .before .before .before .before .before .before .before .before .before .before .before .before .before .before .before .before .before .before .args .table .now)) (c .before .before .before .before .before .before .before .before .before .before .before .before .before .before .before .before .before .before .before .before .args .s) (lined (parse (treeOf (c .before .before .before .before .before .before .before .before .before .before .before .before .before .before .before .before .before .before .before .before .args .table .now)) (variant (treeOf (c .before .before .before .before .before .before .before .before .before .before .before .before .before .before .before .before .before .before .before .before .args .table .now))))) (steady (c .before .before .before .before .before .before .before .before .before .before .before .before .before .before .before-line .ensures) ▹ c .before .before .before .before .before .before .before .before .before .next-variant .ensures) ▹ c .before .before .behind-line .ensures
+returns c =
+    let at-next-variant = c .before .before .before .before .before .before .before .before .before in
+    let at-before-line = at-next-variant .before .before .before .before .before in
+    let start = at-before-line .before .before .before .before .before .before in
+    let rs = treeOf (start .args .table .now) in
+    itemed rs (start .args .s) (lined (parse rs (variant rs))) (steady (at-before-line .before-line .ensures) ▹ at-next-variant .next-variant .ensures)
+    ▹ c .before .before .behind-line .ensures
 
 pub lined-variant-spec : {M : Type 1} → statement M
 lined-variant-spec =

@@ -7,7 +7,13 @@ use Rattle.bodies.proofs.body.struct_node.Statement.{statement}
 use Rattle.bodies.proofs.body.struct_node.Tie as tie
 
 returns : tie.Need-returns
-returns c = parsed (treeOf (c .before .before .before .before .before .before .before .before .before .before .args .table .now)) (structBody (treeOf (c .before .before .before .before .before .before .before .before .before .before .args .table .now))) (c .before .before .before .before .records-of .ensures) (c .before .before .before .struct-body .ensures) (c .left-over .ensures .ran _ (c .before .before .before .struct-body .last .1 .1 .0) (c .before .before .before .struct-body .last .1 .1 .1 .0))
+returns c =
+    let at-struct-body = c .before .before .before in
+    let at-records-of = at-struct-body .before in
+    let start = at-records-of .before .before .before .before .before .before in
+    let rs = treeOf (start .args .table .now) in
+    parsed rs (structBody rs) (at-records-of .records-of .ensures) (at-struct-body .struct-body .ensures)
+    (c .left-over .ensures .ran _ (at-struct-body .struct-body .last .1 .1 .0) (at-struct-body .struct-body .last .1 .1 .1 .0))
 
 pub struct-node-spec : {M : Type 1} → statement M
 struct-node-spec =

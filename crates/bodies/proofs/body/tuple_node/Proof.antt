@@ -7,7 +7,13 @@ use Rattle.bodies.proofs.body.tuple_node.Statement.{statement}
 use Rattle.bodies.proofs.body.tuple_node.Tie as tie
 
 returns : tie.Need-returns
-returns c = parsed (treeOf (c .before .before .before .before .before .before .before .before .before .before .args .table .now)) (tupleBody (treeOf (c .before .before .before .before .before .before .before .before .before .before .args .table .now))) (c .before .before .before .before .records-of .ensures) (c .before .before .before .tuple-body .ensures) (c .left-over .ensures .ran _ (c .before .before .before .tuple-body .last .1 .1 .0) (c .before .before .before .tuple-body .last .1 .1 .1 .0))
+returns c =
+    let at-tuple-body = c .before .before .before in
+    let at-records-of = at-tuple-body .before in
+    let start = at-records-of .before .before .before .before .before .before in
+    let rs = treeOf (start .args .table .now) in
+    parsed rs (tupleBody rs) (at-records-of .records-of .ensures) (at-tuple-body .tuple-body .ensures)
+    (c .left-over .ensures .ran _ (at-tuple-body .tuple-body .last .1 .1 .0) (at-tuple-body .tuple-body .last .1 .1 .1 .0))
 
 pub tuple-node-spec : {M : Type 1} → statement M
 tuple-node-spec =

@@ -7,11 +7,17 @@ use Rattle.bodies.proofs.body.variant.Statement.{statement}
 use Rattle.bodies.proofs.body.variant.Tie as tie
 
 same-length : tie.Need-same-length
-same-length c = keeps (steady (c .before .before .before .before .before .before .before .before .before .before .before .before .comments .ensures) ▹ c .before .before .before .before .before .before .before .token-if .ensures ▹ c .before .before .next-body .ensures)
+same-length c =
+    let at-token-if = c .before .before .before .before .before .before .before in
+    let at-comments = at-token-if .before .before .before .before .before in
+    keeps (steady (at-comments .comments .ensures) ▹ at-token-if .token-if .ensures ▹ c .before .before .next-body .ensures)
 
 returns : tie.Need-returns
 unfolding variant byteOf factsOf
-returns c = steady (c .before .before .before .before .before .before .before .before .before .before .before .before .comments .ensures) ▹ c .before .before .before .before .before .before .before .token-if .ensures ▹ c .before .before .next-body .ensures
+returns c =
+    let at-token-if = c .before .before .before .before .before .before .before in
+    let at-comments = at-token-if .before .before .before .before .before in
+    steady (at-comments .comments .ensures) ▹ at-token-if .token-if .ensures ▹ c .before .before .next-body .ensures
 
 pub variant-spec : {M : Type 1} → statement M
 variant-spec =

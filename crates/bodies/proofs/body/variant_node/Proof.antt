@@ -7,7 +7,13 @@ use Rattle.bodies.proofs.body.variant_node.Statement.{statement}
 use Rattle.bodies.proofs.body.variant_node.Tie as tie
 
 returns : tie.Need-returns
-returns c = parsed (treeOf (c .before .before .before .before .before .before .before .before .before .before .args .table .now)) (variant (treeOf (c .before .before .before .before .before .before .before .before .before .before .args .table .now))) (c .before .before .before .before .records-of .ensures) (c .before .before .before .variant .ensures) (c .left-over .ensures .ran _ (c .before .before .before .variant .last .1 .1 .0) (c .before .before .before .variant .last .1 .1 .1 .0))
+returns c =
+    let at-variant = c .before .before .before in
+    let at-records-of = at-variant .before in
+    let start = at-records-of .before .before .before .before .before .before in
+    let rs = treeOf (start .args .table .now) in
+    parsed rs (variant rs) (at-records-of .records-of .ensures) (at-variant .variant .ensures)
+    (c .left-over .ensures .ran _ (at-variant .variant .last .1 .1 .0) (at-variant .variant .last .1 .1 .1 .0))
 
 pub variant-node-spec : {M : Type 1} → statement M
 variant-node-spec =

@@ -7,11 +7,23 @@ use Rattle.bodies.proofs.body.variants.Statement.{statement}
 use Rattle.bodies.proofs.body.variants.Tie as tie
 
 same-length : tie.Need-same-length
-same-length c = keeps (c .before .before .before .before .before .before .before .before .before .before .before .before .before .before .before .before .before .before .before .before .before .before .before .any .ensures ▹ steady (c .before .before .before .before .before .before .before .before .before .before .before .before .before .before .before .before .before .indent .ensures) ▹ c .before .before .before .before .before .before .before .before .before .before .before .before .lined-variants .ensures ▹ c .before .before .before .before .before .before .before .end-lines .ensures ▹ c .before .before .token .ensures)
+same-length c =
+    let at-end-lines = c .before .before .before .before .before .before .before in
+    let at-lined-variants = at-end-lines .before .before .before .before .before in
+    let at-indent = at-lined-variants .before .before .before .before .before in
+    let at-any = at-indent .before .before .before .before .before .before in
+    keeps (at-any .any .ensures ▹ steady (at-indent .indent .ensures) ▹ at-lined-variants .lined-variants .ensures ▹ at-end-lines .end-lines .ensures
+    ▹ c .before .before .token .ensures)
 
 returns : tie.Need-returns
 unfolding variants byteOf factsOf
-returns c = c .before .before .before .before .before .before .before .before .before .before .before .before .before .before .before .before .before .before .before .before .before .before .before .any .ensures ▹ steady (c .before .before .before .before .before .before .before .before .before .before .before .before .before .before .before .before .before .indent .ensures) ▹ c .before .before .before .before .before .before .before .before .before .before .before .before .lined-variants .ensures ▹ c .before .before .before .before .before .before .before .end-lines .ensures ▹ c .before .before .token .ensures
+returns c =
+    let at-end-lines = c .before .before .before .before .before .before .before in
+    let at-lined-variants = at-end-lines .before .before .before .before .before in
+    let at-indent = at-lined-variants .before .before .before .before .before in
+    let at-any = at-indent .before .before .before .before .before .before in
+    at-any .any .ensures ▹ steady (at-indent .indent .ensures) ▹ at-lined-variants .lined-variants .ensures ▹ at-end-lines .end-lines .ensures
+    ▹ c .before .before .token .ensures
 
 pub variants-spec : {M : Type 1} → statement M
 variants-spec =

@@ -9,7 +9,12 @@ use Rattle.bodies.proofs.fields.field.Tie as tie
 
 returns : tie.Need-returns
 unfolding field
-returns c = parsed (treeOf (c .before .before .before .before .before .before .before .before .before .before .args .table .now)) (pump write) (c .before .before .before .before .records-of .ensures) (c .before .before .before .any .ensures) (c .left-over .ensures .ran _ (c .before .before .before .any .last .1 .1 .0) (c .before .before .before .any .last .1 .1 .1 .0))
+returns c =
+    let at-any = c .before .before .before in
+    let at-records-of = at-any .before in
+    let start = at-records-of .before .before .before .before .before .before in
+    parsed (treeOf (start .args .table .now)) (pump write) (at-records-of .records-of .ensures) (at-any .any .ensures)
+    (c .left-over .ensures .ran _ (at-any .any .last .1 .1 .0) (at-any .any .last .1 .1 .1 .0))
 
 pub field-spec : {M : Type 1} → statement M
 field-spec =

@@ -10,7 +10,13 @@ use Rattle.bodies.proofs.fields.lined_field.Tie as tie
 
 returns : tie.Need-returns
 unfolding turn lined
-returns c = itemed (treeOf (c .before .before .before .before .before .before .before .before .before .before .before .before .before .before .before .before .before .before .before .before .args .table .now)) (c .before .before .before .before .before .before .before .before .before .before .before .before .before .before .before .before .before .before .before .before .args .s) (lined (field (treeOf (c .before .before .before .before .before .before .before .before .before .before .before .before .before .before .before .before .before .before .before .before .args .table .now)))) (steady (c .before .before .before .before .before .before .before .before .before .before .before .before .before .before .before-line .ensures) ▹ c .before .before .before .before .before .before .before .before .before .next-field .ensures) ▹ c .before .before .behind-line .ensures
+returns c =
+    let at-next-field = c .before .before .before .before .before .before .before .before .before in
+    let at-before-line = at-next-field .before .before .before .before .before in
+    let start = at-before-line .before .before .before .before .before .before in
+    let rs = treeOf (start .args .table .now) in
+    itemed rs (start .args .s) (lined (field rs)) (steady (at-before-line .before-line .ensures) ▹ at-next-field .next-field .ensures)
+    ▹ c .before .before .behind-line .ensures
 
 pub lined-field-spec : {M : Type 1} → statement M
 lined-field-spec =

@@ -28,11 +28,21 @@ loop-holds c = starts
 
 loop-less : tie.Need-loop-less Inv-loop μ-loop
 unfolding byteOf factsOf
-loop-less c = falls (line-falls (treeOf (c .before .before .before .before .before .before .before .before .before .before .before .before .args .table .now)) (is (treeOf (c .before .before .before .before .before .before .before .before .before .before .before .before .args .table .now)) Kind.Field) (field (treeOf (c .before .before .before .before .before .before .before .before .before .before .before .before .args .table .now)))) (c .before .before .before .before .before .before .next-is .ensures) (c .before .before .before .before .before .if1 .taken) (c .before .before .lined-field .ensures)
+loop-less c =
+    let then1 = c .before .before .before .before .before in
+    let start = then1 .before .before .before .before .before .before .before in
+    let rs = treeOf (start .args .table .now) in
+    falls (line-falls rs (is rs Kind.Field) (field rs)) (then1 .before .next-is .ensures) (then1 .if1 .taken) (c .before .before .lined-field .ensures)
 
 loop-again : tie.Need-loop-again Inv-loop μ-loop
 unfolding byteOf factsOf
-loop-again c = goes-on (line-falls (treeOf (c .before .before .before .before .before .before .before .before .before .before .before .before .args .table .now)) (is (treeOf (c .before .before .before .before .before .before .before .before .before .before .before .before .args .table .now)) Kind.Field) (field (treeOf (c .before .before .before .before .before .before .before .before .before .before .before .before .args .table .now)))) (c .before .before .before .before .before .before .next-is .ensures) (c .before .before .before .before .before .if1 .taken) (c .before .before .lined-field .ensures) (c .before .before .before .before .before .before .before .loop .inv)
+loop-again c =
+    let then1 = c .before .before .before .before .before in
+    let at-loop = then1 .before .before in
+    let start = at-loop .before .before .before .before .before in
+    let rs = treeOf (start .args .table .now) in
+    goes-on (line-falls rs (is rs Kind.Field) (field rs)) (then1 .before .next-is .ensures) (then1 .if1 .taken) (c .before .before .lined-field .ensures)
+    (at-loop .loop .inv)
 
 same-length : tie.Need-same-length Inv-loop μ-loop
 unfolding byteOf factsOf
@@ -40,7 +50,11 @@ same-length c = keeps (done (c .before .next-is .ensures) (c .if1 .left) (c .bef
 
 returns : tie.Need-returns Inv-loop μ-loop
 unfolding byteOf factsOf items
-returns c = begun (treeOf (c .before .before .before .before .before .before .before .args .table .now)) (c .before .before .before .before .before .before .before .args .queue .now) (c .before .before .before .before .before .before .before .args .out .now) (c .before .before .before .first .ensures) ▹ done (c .before .next-is .ensures) (c .if1 .left) (c .before .before .loop .inv)
+returns c =
+    let at-first = c .before .before .before in
+    let start = at-first .before .before .before .before in
+    begun (treeOf (start .args .table .now)) (start .args .queue .now) (start .args .out .now) (at-first .first .ensures)
+    ▹ done (c .before .next-is .ensures) (c .if1 .left) (c .before .before .loop .inv)
 
 pub lined-fields-spec : {M : Type 1} → statement M
 lined-fields-spec =

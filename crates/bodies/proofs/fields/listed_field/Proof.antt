@@ -10,7 +10,13 @@ use Rattle.bodies.proofs.fields.listed_field.Tie as tie
 
 returns : tie.Need-returns
 unfolding turn listed
-returns c = itemed (treeOf (c .before .before .before .before .before .before .before .before .before .before .before .before .before .before .before .before .before .before .before .before .args .table .now)) (c .before .before .before .before .before .before .before .before .before .before .before .before .before .before .before .before .before .before .before .before .args .s) (listed (field (treeOf (c .before .before .before .before .before .before .before .before .before .before .before .before .before .before .before .before .before .before .before .before .args .table .now)))) (steady (c .before .before .before .before .before .before .before .before .before .before .before .before .before .before .before-item .ensures) ▹ c .before .before .before .before .before .before .before .before .before .next-field .ensures) ▹ c .before .before .behind-item .ensures
+returns c =
+    let at-next-field = c .before .before .before .before .before .before .before .before .before in
+    let at-before-item = at-next-field .before .before .before .before .before in
+    let start = at-before-item .before .before .before .before .before .before in
+    let rs = treeOf (start .args .table .now) in
+    itemed rs (start .args .s) (listed (field rs)) (steady (at-before-item .before-item .ensures) ▹ at-next-field .next-field .ensures)
+    ▹ c .before .before .behind-item .ensures
 
 pub listed-field-spec : {M : Type 1} → statement M
 listed-field-spec =

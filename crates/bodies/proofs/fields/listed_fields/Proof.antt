@@ -27,19 +27,39 @@ loop-holds c = starts
 
 loop-less : tie.Need-loop-less Inv-loop μ-loop
 unfolding byteOf factsOf
-loop-less c = falls (list-falls (treeOf (c .before .before .before .before .before .before .before .before .before .before .before .before .args .table .now)) (is (treeOf (c .before .before .before .before .before .before .before .before .before .before .before .before .args .table .now)) Kind.Field) (field (treeOf (c .before .before .before .before .before .before .before .before .before .before .before .before .args .table .now)))) (c .before .before .before .before .before .before .next-is .ensures) (c .before .before .before .before .before .if1 .taken) (c .before .before .listed-field .ensures)
+loop-less c =
+    let then1 = c .before .before .before .before .before in
+    let start = then1 .before .before .before .before .before .before .before in
+    let rs = treeOf (start .args .table .now) in
+    falls (list-falls rs (is rs Kind.Field) (field rs)) (then1 .before .next-is .ensures) (then1 .if1 .taken) (c .before .before .listed-field .ensures)
 
 loop-again : tie.Need-loop-again Inv-loop μ-loop
 unfolding byteOf factsOf
-loop-again c = goes-on (list-falls (treeOf (c .before .before .before .before .before .before .before .before .before .before .before .before .args .table .now)) (is (treeOf (c .before .before .before .before .before .before .before .before .before .before .before .before .args .table .now)) Kind.Field) (field (treeOf (c .before .before .before .before .before .before .before .before .before .before .before .before .args .table .now)))) (c .before .before .before .before .before .before .next-is .ensures) (c .before .before .before .before .before .if1 .taken) (c .before .before .listed-field .ensures) (c .before .before .before .before .before .before .before .loop .inv)
+loop-again c =
+    let then1 = c .before .before .before .before .before in
+    let at-loop = then1 .before .before in
+    let start = at-loop .before .before .before .before .before in
+    let rs = treeOf (start .args .table .now) in
+    goes-on (list-falls rs (is rs Kind.Field) (field rs)) (then1 .before .next-is .ensures) (then1 .if1 .taken) (c .before .before .listed-field .ensures)
+    (at-loop .loop .inv)
 
 same-length : tie.Need-same-length Inv-loop μ-loop
 unfolding byteOf factsOf
-same-length c = keeps (c .before .before .close .ensures) ∙ keeps (done (c .before .before .before .before .before .before .next-is .ensures) (c .before .before .before .before .before .if1 .left) (c .before .before .before .before .before .before .before .loop .inv))
+same-length c =
+    let else1 = c .before .before .before .before .before in
+    let at-loop = else1 .before .before in
+    keeps (c .before .before .close .ensures) ∙ keeps (done (else1 .before .next-is .ensures) (else1 .if1 .left) (at-loop .loop .inv))
 
 returns : tie.Need-returns Inv-loop μ-loop
 unfolding byteOf factsOf list items
-returns c = (begun (treeOf (c .before .before .before .before .before .before .before .before .before .before .before .before .args .table .now)) (c .before .before .before .before .before .before .before .before .before .before .before .before .args .queue .now) (c .before .before .before .before .before .before .before .before .before .before .before .before .args .out .now) (c .before .before .before .before .before .before .before .before .first .ensures) ▹ done (c .before .before .before .before .before .before .next-is .ensures) (c .before .before .before .before .before .if1 .left) (c .before .before .before .before .before .before .before .loop .inv)) ▹ c .before .before .close .ensures
+returns c =
+    let else1 = c .before .before .before .before .before in
+    let at-loop = else1 .before .before in
+    let at-first = at-loop .before in
+    let start = at-first .before .before .before .before in
+    (begun (treeOf (start .args .table .now)) (start .args .queue .now) (start .args .out .now) (at-first .first .ensures)
+    ▹ done (else1 .before .next-is .ensures) (else1 .if1 .left) (at-loop .loop .inv))
+    ▹ c .before .before .close .ensures
 
 pub listed-fields-spec : {M : Type 1} → statement M
 listed-fields-spec =

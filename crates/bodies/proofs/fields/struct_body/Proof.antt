@@ -7,11 +7,25 @@ use Rattle.bodies.proofs.fields.struct_body.Statement.{statement}
 use Rattle.bodies.proofs.fields.struct_body.Tie as tie
 
 same-length : tie.Need-same-length
-same-length c = keeps (c .before .before .before .before .before .before .before .before .before .before .before .before .before .before .before .before .before .before .before .before .before .before .before .before .before .before .before .before .token .ensures ▹ steady (c .before .before .before .before .before .before .before .before .before .before .before .before .before .before .before .before .before .before .before .before .before .before .indent .ensures) ▹ steady (c .before .before .before .before .before .before .before .before .before .before .before .before .before .before .before .before .before .comments .ensures) ▹ c .before .before .before .before .before .before .before .before .before .before .before .before .lined-fields .ensures ▹ c .before .before .before .before .before .before .before .end-lines .ensures ▹ c .before .before .token2 .ensures)
+same-length c =
+    let at-end-lines = c .before .before .before .before .before .before .before in
+    let at-lined-fields = at-end-lines .before .before .before .before .before in
+    let at-comments = at-lined-fields .before .before .before .before .before in
+    let at-indent = at-comments .before .before .before .before .before in
+    let at-token = at-indent .before .before .before .before .before .before in
+    keeps (at-token .token .ensures ▹ steady (at-indent .indent .ensures) ▹ steady (at-comments .comments .ensures) ▹ at-lined-fields .lined-fields .ensures
+    ▹ at-end-lines .end-lines .ensures ▹ c .before .before .token2 .ensures)
 
 returns : tie.Need-returns
 unfolding structBody byteOf factsOf
-returns c = c .before .before .before .before .before .before .before .before .before .before .before .before .before .before .before .before .before .before .before .before .before .before .before .before .before .before .before .before .token .ensures ▹ steady (c .before .before .before .before .before .before .before .before .before .before .before .before .before .before .before .before .before .before .before .before .before .before .indent .ensures) ▹ steady (c .before .before .before .before .before .before .before .before .before .before .before .before .before .before .before .before .before .comments .ensures) ▹ c .before .before .before .before .before .before .before .before .before .before .before .before .lined-fields .ensures ▹ c .before .before .before .before .before .before .before .end-lines .ensures ▹ c .before .before .token2 .ensures
+returns c =
+    let at-end-lines = c .before .before .before .before .before .before .before in
+    let at-lined-fields = at-end-lines .before .before .before .before .before in
+    let at-comments = at-lined-fields .before .before .before .before .before in
+    let at-indent = at-comments .before .before .before .before .before in
+    let at-token = at-indent .before .before .before .before .before .before in
+    at-token .token .ensures ▹ steady (at-indent .indent .ensures) ▹ steady (at-comments .comments .ensures) ▹ at-lined-fields .lined-fields .ensures
+    ▹ at-end-lines .end-lines .ensures ▹ c .before .before .token2 .ensures
 
 pub struct-body-spec : {M : Type 1} → statement M
 struct-body-spec =

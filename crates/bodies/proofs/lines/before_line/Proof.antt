@@ -6,10 +6,14 @@ use Rattle.bodies.proofs.lines.before_line.Statement.{statement}
 use Rattle.bodies.proofs.lines.before_line.Tie as tie
 
 same-length : tie.Need-same-length
-same-length c = chain.keeps (c .before .before .comments .ensures) ∙ chain.keeps (c .before .before .before .before .before .before .before .nl .ensures)
+same-length c =
+    let at-nl = c .before .before .before .before .before .before .before in
+    chain.keeps (c .before .before .comments .ensures) ∙ chain.keeps (at-nl .nl .ensures)
 
 returns : tie.Need-returns
-returns c = chain._▹_ (c .before .before .before .before .before .before .before .nl .ensures) (c .before .before .comments .ensures)
+returns c =
+    let at-nl = c .before .before .before .before .before .before .before in
+    chain._▹_ (at-nl .nl .ensures) (c .before .before .comments .ensures)
 
 pub before-line-spec : {M : Type 1} → statement M
 before-line-spec =

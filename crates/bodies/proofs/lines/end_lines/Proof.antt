@@ -8,7 +8,13 @@ use Rattle.bodies.proofs.lines.end_lines.Tie as tie
 
 returns : tie.Need-returns
 unfolding ended
-returns c = ended-by (treeOf (c .before .before .before .before .before .before .before .before .before .before .before .before .before .before .before .before .before .before .before .before .args .table .now)) (c .before .before .before .before .before .before .before .before .before .before .before .before .before .before .before .before .before .before .before .before .args .s) (c .before .before .before .before .before .before .before .before .before .before .before .before .before .comments .ensures) (c .before .before .before .before .before .before .before .before .line-end .ensures) (c .before .before .before .before .before .before .before .nl .ensures) (c .before .before .indent .ensures)
+returns c =
+    let at-nl = c .before .before .before .before .before .before .before in
+    let at-line-end = at-nl .before in
+    let at-comments = at-line-end .before .before .before .before .before in
+    let start = at-comments .before .before .before .before .before .before .before in
+    ended-by (treeOf (start .args .table .now)) (start .args .s) (at-comments .comments .ensures) (at-line-end .line-end .ensures) (at-nl .nl .ensures)
+    (c .before .before .indent .ensures)
 
 pub end-lines-spec : {M : Type 1} → statement M
 end-lines-spec =
