@@ -9,7 +9,11 @@ use Rattle.uses.proofs.brace.brace.Tie as tie
 
 returns : tie.Need-returns
 unfolding expectByte
-returns c = stepped (takeIf (isByte _ (c .before .before .before .before .before .before .before .before .before .before .args .kind))) (braced (c .before .before .before .before .before .before .before .before .before .before .args .few)) notMet (c .before .before .before .before .before .before .eat .ensures .found) (c .before .before .before .before .before .before .eat .ensures .rest) (c .before .before .brace-found .ensures)
+returns c =
+    let at-eat = c .before .before .before .before .before .before in
+    let start = at-eat .before .before .before .before in
+    stepped (takeIf (isByte _ (start .args .kind))) (braced (start .args .few)) notMet (at-eat .eat .ensures .found) (at-eat .eat .ensures .rest)
+    (c .before .before .brace-found .ensures)
 
 pub brace-spec : {M : Type 1} → statement M
 brace-spec =

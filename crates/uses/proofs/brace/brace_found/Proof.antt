@@ -6,10 +6,15 @@ use Rattle.uses.proofs.brace.brace_found.Statement.{statement}
 use Rattle.uses.proofs.brace.brace_found.Tie as tie
 
 returns : tie.Need-returns
-returns c = found-at (braced (c .before .before .before .before .before .before .before .before .before .before .before .args .few)) _ (c .before .before .before .before .before .before .found .given .1) (c .before .before .brace-of .ensures)
+returns c =
+    let at-found = c .before .before .before .before .before .before in
+    let start = at-found .before .before .before .before .before in
+    found-at (braced (start .args .few)) _ (at-found .found .given .1) (c .before .before .brace-of .ensures)
 
 returns-2 : tie.Need-returns-2
-returns-2 c = found-none (braced (c .before .before .before .before .before .before .args .few)) _ (c .before .enum-told .given .1) (c .not-met .ensures .ran _ (c .before .before .before .before .before .before .args .queue .now) (c .before .before .before .before .before .before .args .out .now))
+returns-2 c =
+    let start = c .before .before .before .before .before .before in
+    found-none (braced (start .args .few)) _ (c .before .enum-told .given .1) (c .not-met .ensures .ran _ (start .args .queue .now) (start .args .out .now))
 
 pub brace-found-spec : {M : Type 1} → statement M
 brace-found-spec =

@@ -12,19 +12,28 @@ same-length : tie.Need-same-length
 same-length c = chain.keeps (c .before .before .write-owned .ensures)
 
 returns : tie.Need-returns
-returns c = ran-as (ap (λ (n : Few). braced n (c .before .before .before .before .before .before .before .before .before .before .args .k)) (sym (c .before .before .before .before .before .enum-told .given .1))) (c .before .before .write-owned .ensures)
+returns c =
+    let at-enum-told = c .before .before .before .before .before in
+    let start = at-enum-told .before .before .before .before .before in
+    ran-as (ap (λ (n : Few). braced n (start .args .k)) (sym (at-enum-told .enum-told .given .1))) (c .before .before .write-owned .ensures)
 
 same-length-2 : tie.Need-same-length-2
 same-length-2 c = chain.keeps (c .before .before .ignore .ensures)
 
 returns-2 : tie.Need-returns-2
-returns-2 c = ran-as (ap (λ (n : Few). braced n (c .before .before .before .before .before .before .before .before .before .before .args .k)) (sym (c .before .before .before .before .before .enum-told2 .given .1))) (c .before .before .ignore .ensures)
+returns-2 c =
+    let at-enum-told2 = c .before .before .before .before .before in
+    let start = at-enum-told2 .before .before .before .before .before in
+    ran-as (ap (λ (n : Few). braced n (start .args .k)) (sym (at-enum-told2 .enum-told2 .given .1))) (c .before .before .ignore .ensures)
 
 same-length-3 : tie.Need-same-length-3
 same-length-3 c = chain.keeps (c .before .before .write-owned2 .ensures)
 
 returns-3 : tie.Need-returns-3
-returns-3 c = ran-as (ap (λ (n : Few). braced n (c .before .before .before .before .before .before .before .before .before .before .args .k)) (sym (c .before .before .before .before .before .enum-told3 .given .1))) (c .before .before .write-owned2 .ensures)
+returns-3 c =
+    let at-enum-told3 = c .before .before .before .before .before in
+    let start = at-enum-told3 .before .before .before .before .before in
+    ran-as (ap (λ (n : Few). braced n (start .args .k)) (sym (at-enum-told3 .enum-told3 .given .1))) (c .before .before .write-owned2 .ensures)
 
 pub brace-of-spec : {M : Type 1} → statement M
 brace-of-spec =

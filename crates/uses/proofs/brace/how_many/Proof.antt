@@ -19,13 +19,27 @@ loop-holds : tie.Need-loop-holds Inv-loop μ-loop
 loop-holds c = refl
 
 loop-less : tie.Need-loop-less Inv-loop μ-loop
-loop-less c = taken-less (streamOf (treeOf (c .before .before .before .before .before .before .before .args .table .now)) (c .before .before .before .before .before .loop .p)) (c .before .before .before .before .has-next .ensures) (c .before .before .before .if1 .taken) (c .before .take-any .ensures .rest)
+loop-less c =
+    let then1 = c .before .before .before in
+    let at-loop = then1 .before .before in
+    let start = at-loop .before .before in
+    taken-less (streamOf (treeOf (start .args .table .now)) (at-loop .loop .p)) (then1 .before .has-next .ensures) (then1 .if1 .taken)
+    (c .before .take-any .ensures .rest)
 
 loop-again : tie.Need-loop-again Inv-loop μ-loop
-loop-again c = counts-on _ (c .before .before .before .before .before .loop .count) (streamOf (treeOf (c .before .before .before .before .before .before .before .args .table .now)) (c .before .before .before .before .before .loop .p)) (c .before .before .before .before .has-next .ensures) (c .before .before .before .if1 .taken) (c .before .before .counted .ensures) (c .before .take-any .ensures .rest) (c .before .before .before .before .before .loop .inv)
+loop-again c =
+    let then1 = c .before .before .before in
+    let at-loop = then1 .before .before in
+    let start = at-loop .before .before in
+    counts-on _ (at-loop .loop .count) (streamOf (treeOf (start .args .table .now)) (at-loop .loop .p)) (then1 .before .has-next .ensures) (then1 .if1 .taken)
+    (c .before .before .counted .ensures) (c .before .take-any .ensures .rest) (at-loop .loop .inv)
 
 returns : tie.Need-returns Inv-loop μ-loop
-returns c = counted-all _ (c .before .before .loop .count) (streamOf (treeOf (c .before .before .before .before .args .table .now)) (c .before .before .loop .p)) (c .before .has-next .ensures) (c .if1 .left) (c .before .before .loop .inv)
+returns c =
+    let at-loop = c .before .before in
+    let start = at-loop .before .before in
+    counted-all _ (at-loop .loop .count) (streamOf (treeOf (start .args .table .now)) (at-loop .loop .p)) (c .before .has-next .ensures) (c .if1 .left)
+    (at-loop .loop .inv)
 
 pub how-many-spec : {M : Type 1} → statement M
 how-many-spec =

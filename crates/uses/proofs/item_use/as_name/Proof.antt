@@ -10,11 +10,21 @@ use Rattle.uses.proofs.item_use.as_name.Tie as tie
 
 returns : tie.Need-returns
 unfolding byteOf factsOf
-returns c = as-some (treeOf (c .before .before .before .before .before .before .before .before .before .before .before .before .before .before .before .before .before .before .before .before .args .table .now)) (streamOf (treeOf (c .before .before .before .before .before .before .before .before .before .before .before .before .before .before .before .before .before .before .before .before .args .table .now)) (c .before .before .before .before .before .before .before .before .before .before .before .before .before .before .before .before .before .before .before .before .args .p)) (c .before .before .before .before .before .before .before .before .before .before .before .before .before .before .before .before .next-is .ensures) (c .before .before .before .before .before .before .before .before .before .before .before .before .before .before .before .if1 .taken) (steady (c .before .before .before .before .before .before .before .before .before .before .before .before .ws .ensures) ▹ c .before .before .before .before .before .before .before .any .ensures ▹ c .before .before .spaced-if .ensures)
+returns c =
+    let at-any = c .before .before .before .before .before .before .before in
+    let at-ws = at-any .before .before .before .before .before in
+    let then1 = at-ws .before .before .before in
+    let start = then1 .before .before .before .before .before in
+    let rs = treeOf (start .args .table .now) in
+    as-some rs (streamOf rs (start .args .p)) (then1 .before .next-is .ensures) (then1 .if1 .taken)
+    (steady (at-ws .ws .ensures) ▹ at-any .any .ensures ▹ c .before .before .spaced-if .ensures)
 
 returns-2 : tie.Need-returns-2
 unfolding byteOf factsOf
-returns-2 c = as-none (treeOf (c .before .before .before .before .before .args .table .now)) (streamOf (treeOf (c .before .before .before .before .before .args .table .now)) (c .before .before .before .before .before .args .p)) (c .before .next-is .ensures) (c .if1 .left)
+returns-2 c =
+    let start = c .before .before .before .before .before in
+    let rs = treeOf (start .args .table .now) in
+    as-none rs (streamOf rs (start .args .p)) (c .before .next-is .ensures) (c .if1 .left)
 
 pub as-name-spec : {M : Type 1} → statement M
 as-name-spec =

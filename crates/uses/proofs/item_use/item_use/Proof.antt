@@ -8,7 +8,10 @@ use Rattle.uses.proofs.item_use.item_use.Tie as tie
 
 returns : tie.Need-returns
 unfolding itemUse byteOf factsOf
-returns c = c .before .before .before .before .before .before .before .before .before .before .before .before .token .ensures ▹ steady (c .before .before .before .before .before .before .before .ws .ensures) ▹ c .before .before .item-use-path .ensures
+returns c =
+    let at-ws = c .before .before .before .before .before .before .before in
+    let at-token = at-ws .before .before .before .before .before in
+    at-token .token .ensures ▹ steady (at-ws .ws .ensures) ▹ c .before .before .item-use-path .ensures
 
 pub item-use-spec : {M : Type 1} → statement M
 item-use-spec =

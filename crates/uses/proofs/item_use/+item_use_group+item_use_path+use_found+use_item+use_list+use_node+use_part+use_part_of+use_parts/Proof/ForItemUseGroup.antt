@@ -26,14 +26,37 @@ module _ (t : ℕ) where
   claims = (records-of-reads.Asked, records-of-reads.Learnt, how-many-reads.Asked, how-many-reads.Learnt, brace-reads.Asked, brace-reads.Learnt, first-reads.Asked, first-reads.Learnt, use-list-below t, use-list.Post, close-reads.Asked, close-reads.Learnt, left-over-reads.Asked, left-over-reads.Learnt)
 
   use-list-requires : lts.Need-use-list-requires claims (item-use-group-at t) item-use-group.Post
-  use-list-requires c κs = (omega (arith, c .before .before .before .before .before .before .before .before .before .before .before .before .before .pre .0), tt)
+  use-list-requires c κs =
+      let start = c .before .before .before .before .before .before .before .before .before .before .before .before .before in
+      (omega (arith, start .pre .0), tt)
 
   same-length : lts.Need-same-length claims (item-use-group-at t) item-use-group.Post
-  same-length c = keeps (c .before .before .before .brace2 .ensures) ∙ keeps (c .before .before .before .before .before .before .before .before .close .ensures) ∙ keeps (c .before .before .before .before .before .before .before .before .before .before .before .before .before .use-list .ensures) ∙ keeps (c .before .before .before .before .before .before .before .before .before .before .before .before .before .before .before .before .before .before .before .brace .ensures)
+  same-length c =
+      let at-brace2 = c .before .before .before in
+      let at-close = at-brace2 .before .before .before .before .before in
+      let at-use-list = at-close .before .before .before .before .before in
+      let at-brace = at-use-list .before .before .before .before .before .before in
+      keeps (at-brace2 .brace2 .ensures) ∙ keeps (at-close .close .ensures) ∙ keeps (at-use-list .use-list .ensures) ∙ keeps (at-brace .brace .ensures)
 
   returns : lts.Need-returns claims (item-use-group-at t) item-use-group.Post
   unfolding useGroup list items byteOf factsOf
-  returns c = parsed (treeOf (c .before .before .before .before .before .before .before .before .before .before .before .before .before .before .before .before .before .before .before .before .before .before .before .before .before .before .before .args .table .now)) _ (c .before .before .before .before .before .before .before .before .before .before .before .before .before .before .before .before .before .before .before .before .before .before .before .records-of .ensures) (grouped (treeOf (c .before .before .before .before .before .before .before .before .before .before .before .before .before .before .before .before .before .before .before .before .before .before .before .before .before .before .before .args .table .now)) _ (c .before .before .before .before .before .before .before .before .before .before .before .before .before .before .before .before .before .before .before .before .before .before .how-many .ensures) (c .before .before .before .before .before .before .before .before .before .before .before .before .before .before .before .before .before .before .before .brace .ensures ▹ ((begun (treeOf (c .before .before .before .before .before .before .before .before .before .before .before .before .before .before .before .before .before .before .before .before .before .before .before .before .before .before .before .args .table .now)) (c .before .before .before .before .before .before .before .before .before .before .before .before .before .before .before .before .before .before .before .brace .last .1 .1 .0) (c .before .before .before .before .before .before .before .before .before .before .before .before .before .before .before .before .before .before .before .brace .last .1 .1 .1 .0) (c .before .before .before .before .before .before .before .before .before .before .before .before .before .before .before .before .first .ensures) ▹ c .before .before .before .before .before .before .before .before .before .before .before .before .before .use-list .ensures) ▹ c .before .before .before .before .before .before .before .before .close .ensures) ▹ c .before .before .before .brace2 .ensures)) (c .left-over .ensures .ran _ (c .before .before .before .brace2 .last .1 .1 .0) (c .before .before .before .brace2 .last .1 .1 .1 .0))
+  returns c =
+      let at-brace2 = c .before .before .before in
+      let at-close = at-brace2 .before .before .before .before .before in
+      let at-use-list = at-close .before .before .before .before .before in
+      let at-first = at-use-list .before .before .before in
+      let at-brace = at-first .before .before .before in
+      let at-how-many = at-brace .before .before .before in
+      let at-records-of = at-how-many .before in
+      let start = at-records-of .before .before .before .before in
+      let rs = treeOf (start .args .table .now) in
+      parsed rs _ (at-records-of .records-of .ensures)
+      (grouped rs _ (at-how-many .how-many .ensures)
+      (at-brace .brace .ensures
+      ▹ ((begun rs (at-brace .brace .last .1 .1 .0) (at-brace .brace .last .1 .1 .1 .0) (at-first .first .ensures) ▹ at-use-list .use-list .ensures)
+      ▹ at-close .close .ensures)
+      ▹ at-brace2 .brace2 .ensures))
+      (c .left-over .ensures .ran _ (at-brace2 .brace2 .last .1 .1 .0) (at-brace2 .brace2 .last .1 .1 .1 .0))
 
   pub closed : {M : Type 1} → lts.Closed claims (item-use-group-at t) item-use-group.Post M
   closed = lts.spec claims (item-use-group-at t) item-use-group.Post (λ c κs. search needs) (λ c κs. search needs) (λ c κs. search needs) (λ c κs. search needs) use-list-requires (λ c κs. search needs) (λ c κs. search needs) (λ c κs. search needs) same-length returns

@@ -18,14 +18,24 @@ module _ (t : ℕ) where
   claims = (refuse-reads.Asked, refuse-reads.Learnt, use-parts-below t, use-parts.Post, as-name-reads.Asked, as-name-reads.Learnt)
 
   returns : lts.Need-returns claims (item-use-path-at t) item-use-path.Post
-  returns c = use-none (treeOf (c .before .before .before .before .before .before .args .table .now)) (c .before .before .before .before .before .before .args .depth) (c .before .before .if1 .taken) (c .refuse .ensures .ran _ (c .before .before .before .before .before .before .args .queue .now) (c .before .before .before .before .before .before .args .out .now))
+  returns c =
+      let start = c .before .before .before .before .before .before in
+      use-none (treeOf (start .args .table .now)) (start .args .depth) (c .before .before .if1 .taken)
+      (c .refuse .ensures .ran _ (start .args .queue .now) (start .args .out .now))
 
   same-length : lts.Need-same-length claims (item-use-path-at t) item-use-path.Post
-  same-length c = keeps (c .before .before .as-name .ensures) ∙ keeps (c .before .before .before .before .before .before .before .use-parts .ensures)
+  same-length c =
+      let at-use-parts = c .before .before .before .before .before .before .before in
+      keeps (c .before .before .as-name .ensures) ∙ keeps (at-use-parts .use-parts .ensures)
 
   returns-2 : lts.Need-returns-2 claims (item-use-path-at t) item-use-path.Post
   unfolding usePathRule
-  returns-2 c = use-some (treeOf (c .before .before .before .before .before .before .before .before .before .before .before .before .before .before .args .table .now)) (c .before .before .before .before .before .before .before .before .before .before .before .before .before .before .args .depth) (c .before .before .before .before .before .before .before .before .before .before .if1 .left) (c .before .before .before .before .before .before .before .use-parts .ensures ▹ c .before .before .as-name .ensures)
+  returns-2 c =
+      let at-use-parts = c .before .before .before .before .before .before .before in
+      let else1 = at-use-parts .before .before .before in
+      let start = else1 .before .before .before .before in
+      use-some (treeOf (start .args .table .now)) (start .args .depth) (else1 .if1 .left)
+      (at-use-parts .use-parts .ensures ▹ c .before .before .as-name .ensures)
 
   pub closed : {M : Type 1} → lts.Closed claims (item-use-path-at t) item-use-path.Post M
   closed = lts.spec claims (item-use-path-at t) item-use-path.Post (λ c κs. search needs) returns (λ c. search needs) (λ c κs. search needs) (λ c κs. search needs) same-length returns-2

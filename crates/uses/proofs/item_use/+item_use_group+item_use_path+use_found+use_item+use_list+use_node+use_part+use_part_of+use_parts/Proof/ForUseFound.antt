@@ -14,10 +14,14 @@ module _ (t : ℕ) where
   claims = (use-node-below t, use-node.Post, not-met-reads.Asked, not-met-reads.Learnt)
 
   returns : lts.Need-returns claims (use-found-at t) use-found.Post
-  returns c = found-at _ _ (c .before .before .before .before .before .before .found .given .1) (c .before .before .use-node .ensures)
+  returns c =
+      let at-found = c .before .before .before .before .before .before in
+      found-at _ _ (at-found .found .given .1) (c .before .before .use-node .ensures)
 
   returns-2 : lts.Need-returns-2 claims (use-found-at t) use-found.Post
-  returns-2 c = found-none (parse _ _) _ (c .before .enum-told .given .1) (c .not-met .ensures .ran _ (c .before .before .before .before .before .before .args .queue .now) (c .before .before .before .before .before .before .args .out .now))
+  returns-2 c =
+      let start = c .before .before .before .before .before .before in
+      found-none (parse _ _) _ (c .before .enum-told .given .1) (c .not-met .ensures .ran _ (start .args .queue .now) (start .args .out .now))
 
   pub closed : {M : Type 1} → lts.Closed claims (use-found-at t) use-found.Post M
   closed = lts.spec claims (use-found-at t) use-found.Post (λ c. search needs) (λ c κs. search needs) (λ c. search needs) (λ c κs. search needs) (λ c. search needs) returns returns-2

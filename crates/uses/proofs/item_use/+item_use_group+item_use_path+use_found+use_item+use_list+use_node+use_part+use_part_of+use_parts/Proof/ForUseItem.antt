@@ -22,11 +22,22 @@ module _ (t : ℕ) where
   claims = (before-item-reads.Asked, before-item-reads.Learnt, take-any-reads.Asked, take-any-reads.Learnt, use-found-below t, use-found.Post, behind-item-reads.Asked, behind-item-reads.Learnt)
 
   same-length : lts.Need-same-length claims (use-item-at t) use-item.Post
-  same-length c = keeps (c .before .before .behind-item .ensures) ∙ chain.keeps (c .before .before .before .before .before .before .before .use-found .ensures) ∙ chain.keeps (c .before .before .before .before .before .before .before .before .before .before .before .before .before .before .before-item .ensures)
+  same-length c =
+      let at-use-found = c .before .before .before .before .before .before .before in
+      let at-before-item = at-use-found .before .before .before .before .before .before .before in
+      keeps (c .before .before .behind-item .ensures) ∙ chain.keeps (at-use-found .use-found .ensures) ∙ chain.keeps (at-before-item .before-item .ensures)
 
   returns : lts.Need-returns claims (use-item-at t) use-item.Post
   unfolding turn listed pump
-  returns c = itemed (treeOf (c .before .before .before .before .before .before .before .before .before .before .before .before .before .before .before .before .before .before .before .before .args .table .now)) (c .before .before .before .before .before .before .before .before .before .before .before .before .before .before .before .before .before .before .before .before .args .s) _ (steady (c .before .before .before .before .before .before .before .before .before .before .before .before .before .before .before-item .ensures) ▹ stepped takeAny (parse _ _) notMet (c .before .before .before .before .before .before .before .before .before .before .before .take-any .ensures .found) (c .before .before .before .before .before .before .before .before .before .before .before .take-any .ensures .rest) (c .before .before .before .before .before .before .before .use-found .ensures)) ▹ c .before .before .behind-item .ensures
+  returns c =
+      let at-use-found = c .before .before .before .before .before .before .before in
+      let at-take-any = at-use-found .before .before .before .before in
+      let at-before-item = at-take-any .before .before .before in
+      let start = at-before-item .before .before .before .before .before .before in
+      itemed (treeOf (start .args .table .now)) (start .args .s) _
+      (steady (at-before-item .before-item .ensures)
+      ▹ stepped takeAny (parse _ _) notMet (at-take-any .take-any .ensures .found) (at-take-any .take-any .ensures .rest) (at-use-found .use-found .ensures))
+      ▹ c .before .before .behind-item .ensures
 
   pub closed : {M : Type 1} → lts.Closed claims (use-item-at t) use-item.Post M
   closed = lts.spec claims (use-item-at t) use-item.Post (λ c κs. search needs) (λ c κs. search needs) (λ c κs. search needs) (λ c κs. search needs) same-length returns

@@ -34,11 +34,16 @@ module _ (t : ℕ) where
 
   loop-less : lts.Need-loop-less claims (use-list-at t) use-list.Post Inv-loop μ-loop
   unfolding byteOf factsOf
-  loop-less c = falls (list-falls _ _ _) (c .before .before .before .before .before .before .next-is .ensures) (c .before .before .before .before .before .if1 .taken) (c .before .before .use-item .ensures)
+  loop-less c =
+      let then1 = c .before .before .before .before .before in
+      falls (list-falls _ _ _) (then1 .before .next-is .ensures) (then1 .if1 .taken) (c .before .before .use-item .ensures)
 
   loop-again : lts.Need-loop-again claims (use-list-at t) use-list.Post Inv-loop μ-loop
   unfolding byteOf factsOf
-  loop-again c = goes-on (list-falls _ _ _) (c .before .before .before .before .before .before .next-is .ensures) (c .before .before .before .before .before .if1 .taken) (c .before .before .use-item .ensures) (c .before .before .before .before .before .before .before .loop .inv)
+  loop-again c =
+      let then1 = c .before .before .before .before .before in
+      let at-loop = then1 .before .before in
+      goes-on (list-falls _ _ _) (then1 .before .next-is .ensures) (then1 .if1 .taken) (c .before .before .use-item .ensures) (at-loop .loop .inv)
 
   same-length : lts.Need-same-length claims (use-list-at t) use-list.Post Inv-loop μ-loop
   unfolding byteOf factsOf

@@ -15,7 +15,12 @@ module _ (t : ℕ) where
   claims = (records-of-reads.Asked, records-of-reads.Learnt, item-use-path-below t, item-use-path.Post, left-over-reads.Asked, left-over-reads.Learnt)
 
   returns : lts.Need-returns claims (use-node-at t) use-node.Post
-  returns c = parsed (treeOf (c .before .before .before .before .before .before .before .before .before .before .args .table .now)) _ (c .before .before .before .before .before .before .records-of .ensures) (c .before .before .before .item-use-path .ensures) (c .left-over .ensures .ran _ (c .before .before .before .item-use-path .last .1 .1 .0) (c .before .before .before .item-use-path .last .1 .1 .1 .0))
+  returns c =
+      let at-item-use-path = c .before .before .before in
+      let at-records-of = at-item-use-path .before .before .before in
+      let start = at-records-of .before .before .before .before in
+      parsed (treeOf (start .args .table .now)) _ (at-records-of .records-of .ensures) (at-item-use-path .item-use-path .ensures)
+      (c .left-over .ensures .ran _ (at-item-use-path .item-use-path .last .1 .1 .0) (at-item-use-path .item-use-path .last .1 .1 .1 .0))
 
   pub closed : {M : Type 1} → lts.Closed claims (use-node-at t) use-node.Post M
   closed = lts.spec claims (use-node-at t) use-node.Post (λ c κs. search needs) (λ c κs. search needs) (λ c κs. search needs) (λ c. search needs) returns

@@ -18,11 +18,19 @@ module _ (t : ℕ) where
 
   returns : lts.Need-returns claims (use-part-at t) use-part.Post
   unfolding pump
-  returns c = stepped takeAny _ notMet (c .before .before .before .before .before .before .before .before .before .take-any .ensures .found) (c .before .before .before .before .before .before .before .before .before .take-any .ensures .rest) (found-at _ _ (c .before .before .before .before .before .before .found .given .1) (c .before .before .use-part-of .ensures))
+  returns c =
+      let at-found = c .before .before .before .before .before .before in
+      let at-take-any = at-found .before .before .before in
+      stepped takeAny _ notMet (at-take-any .take-any .ensures .found) (at-take-any .take-any .ensures .rest)
+      (found-at _ _ (at-found .found .given .1) (c .before .before .use-part-of .ensures))
 
   returns-2 : lts.Need-returns-2 claims (use-part-at t) use-part.Post
   unfolding pump
-  returns-2 c = stepped takeAny (usePart _ _) notMet (c .before .before .before .before .take-any .ensures .found) (c .before .before .before .before .take-any .ensures .rest) (found-none _ _ (c .before .enum-told .given .1) (c .not-met .ensures .ran _ (c .before .before .before .before .before .before .before .before .args .queue .now) (c .before .before .before .before .before .before .before .before .args .out .now)))
+  returns-2 c =
+      let at-take-any = c .before .before .before .before in
+      let start = at-take-any .before .before .before .before in
+      stepped takeAny (usePart _ _) notMet (at-take-any .take-any .ensures .found) (at-take-any .take-any .ensures .rest)
+      (found-none _ _ (c .before .enum-told .given .1) (c .not-met .ensures .ran _ (start .args .queue .now) (start .args .out .now)))
 
   pub closed : {M : Type 1} → lts.Closed claims (use-part-at t) use-part.Post M
   closed = lts.spec claims (use-part-at t) use-part.Post (λ c κs. search needs) (λ c. search needs) (λ c κs. search needs) (λ c. search needs) (λ c κs. search needs) (λ c. search needs) returns returns-2

@@ -17,11 +17,15 @@ module _ (t : ℕ) where
 
   returns : lts.Need-returns claims (use-part-of-at t) use-part-of.Post
   unfolding usePart byteOf factsOf
-  returns c = if-so _ _ (c .before .before .before .before .before .before .is-kind .ensures) (c .before .before .before .before .before .if1 .taken) (c .before .before .item-use-group .ensures)
+  returns c =
+      let then1 = c .before .before .before .before .before in
+      if-so _ _ (then1 .before .is-kind .ensures) (then1 .if1 .taken) (c .before .before .item-use-group .ensures)
 
   returns-2 : lts.Need-returns-2 claims (use-part-of-at t) use-part-of.Post
   unfolding usePart byteOf factsOf
-  returns-2 c = if-not _ _ (c .before .before .before .before .before .before .is-kind .ensures) (c .before .before .before .before .before .if1 .left) (c .before .before .write-owned .ensures)
+  returns-2 c =
+      let else1 = c .before .before .before .before .before in
+      if-not _ _ (else1 .before .is-kind .ensures) (else1 .if1 .left) (c .before .before .write-owned .ensures)
 
   pub closed : {M : Type 1} → lts.Closed claims (use-part-of-at t) use-part-of.Post M
   closed = lts.spec claims (use-part-of-at t) use-part-of.Post (λ c κs. search needs) (λ c κs. search needs) (λ c. search needs) returns (λ c κs. search needs) (λ c. search needs) returns-2

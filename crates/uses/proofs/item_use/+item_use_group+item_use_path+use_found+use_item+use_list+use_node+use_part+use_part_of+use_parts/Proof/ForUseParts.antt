@@ -34,11 +34,19 @@ module _ (t : ℕ) where
 
   loop-less : lts.Need-loop-less claims (use-parts-at t) use-parts.Post Inv-loop μ-loop
   unfolding byteOf factsOf
-  loop-less c = falls (parts-fall (treeOf (c .before .before .before .before .before .before .before .before .before .before .before .args .table .now)) _) (c .before .before .before .before .before .before .next-is-not .ensures) (c .before .before .before .before .before .if1 .taken) (c .before .before .use-part .ensures)
+  loop-less c =
+      let then1 = c .before .before .before .before .before in
+      let start = then1 .before .before .before .before .before .before in
+      falls (parts-fall (treeOf (start .args .table .now)) _) (then1 .before .next-is-not .ensures) (then1 .if1 .taken) (c .before .before .use-part .ensures)
 
   loop-again : lts.Need-loop-again claims (use-parts-at t) use-parts.Post Inv-loop μ-loop
   unfolding byteOf factsOf
-  loop-again c = goes-on (parts-fall (treeOf (c .before .before .before .before .before .before .before .before .before .before .before .args .table .now)) _) (c .before .before .before .before .before .before .next-is-not .ensures) (c .before .before .before .before .before .if1 .taken) (c .before .before .use-part .ensures) (c .before .before .before .before .before .before .before .loop .inv)
+  loop-again c =
+      let then1 = c .before .before .before .before .before in
+      let at-loop = then1 .before .before in
+      let start = at-loop .before .before .before .before in
+      goes-on (parts-fall (treeOf (start .args .table .now)) _) (then1 .before .next-is-not .ensures) (then1 .if1 .taken)
+      (c .before .before .use-part .ensures) (at-loop .loop .inv)
 
   same-length : lts.Need-same-length claims (use-parts-at t) use-parts.Post Inv-loop μ-loop
   unfolding byteOf factsOf
