@@ -5,7 +5,9 @@ use Rattle.format.proofs.at_least.is_at_least.Statement.{statement}
 use Rattle.format.proofs.at_least.is_at_least.Tie as tie
 
 returns : tie.Need-returns
-returns c = at-least (c .before .before .before .args .src .now) (c .before .before .before .args .span) (c .before .before .before .args .n) (c .before .part .ensures) (c .count .ensures)
+returns c =
+    let start = c .before .before .before in
+    at-least (start .args .src .now) (start .args .span) (start .args .n) (c .before .part .ensures) (c .count .ensures)
 
 pub is-at-least-spec : {M : Type 1} → statement M
 is-at-least-spec =

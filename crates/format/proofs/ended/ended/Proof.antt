@@ -5,10 +5,20 @@ use Rattle.format.proofs.ended.ended.Statement.{statement}
 use Rattle.format.proofs.ended.ended.Tie as tie
 
 returns : tie.Need-returns
-returns c = record { step = c .left .ensures .out; buffer = end-stopped (c .before .before .before .before .before .before .before .before .args .r .answer) _ _ _ (c .before .before .before .before .before .before .stopped .ensures) (c .before .before .before .before .before .if1 .taken) (c .before .before .before .zero-from .ensures) }
+returns c =
+    let at-zero-from = c .before .before .before in
+    let then1 = at-zero-from .before .before in
+    let start = then1 .before .before .before in
+    record {
+      step = c .left .ensures .out;
+      buffer = end-stopped (start .args .r .answer) _ _ _ (then1 .before .stopped .ensures) (then1 .if1 .taken)
+          (at-zero-from .zero-from .ensures);
+    }
 
 returns-2 : tie.Need-returns-2
-returns-2 c = record { step = c .left2 .ensures .out; buffer = end-open (c .before .before .before .before .args .r .answer) _ _ (c .before .before .stopped .ensures) (c .before .if1 .left) }
+returns-2 c =
+    let start = c .before .before .before .before in
+    record { step = c .left2 .ensures .out; buffer = end-open (start .args .r .answer) _ _ (c .before .before .stopped .ensures) (c .before .if1 .left) }
 
 pub ended-spec : {M : Type 1} → statement M
 ended-spec =

@@ -6,7 +6,9 @@ use Rattle.format.proofs.ended.zero_from.Statement.{statement}
 use Rattle.format.proofs.ended.zero_from.Tie as tie
 
 returns : tie.Need-returns
-returns c = zero-all (c .before .before .before .before .before .before .args .n) (c .before .before .before .before .before .before .args .out .now) _ (omega arith) (c .before .before .fill .ensures)
+returns c =
+    let start = c .before .before .before .before .before .before in
+    zero-all (start .args .n) (start .args .out .now) _ (omega arith) (c .before .before .fill .ensures)
 
 pub zero-from-spec : {M : Type 1} → statement M
 zero-from-spec =

@@ -7,12 +7,21 @@ use Rattle.format.proofs.items.use_item.Statement.{statement}
 use Rattle.format.proofs.items.use_item.Tie as tie
 
 same-length : tie.Need-same-length
-same-length c = keeps (c .before .before .before .before .before .before .before .before .modifiers .ensures ▹ c .before .before .before .item-use .ensures)
+same-length c =
+    let at-item-use = c .before .before .before in
+    let at-modifiers = at-item-use .before .before .before .before .before in
+    keeps (at-modifiers .modifiers .ensures ▹ at-item-use .item-use .ensures)
 
 returns : tie.Need-returns
 unfolding useItem
-returns c = let rs = treeOf (c .before .before .before .before .before .before .before .before .before .before .before .before .before .before .before .args .table .now) in
-    parsed rs (useItem rs) (c .before .before .before .before .before .before .before .before .before .records-of .ensures) (c .before .before .before .before .before .before .before .before .modifiers .ensures ▹ c .before .before .before .item-use .ensures) (c .left-over .ensures .ran _ (c .before .before .before .item-use .last .1 .1 .0) (c .before .before .before .item-use .last .1 .1 .1 .0))
+returns c =
+    let at-item-use = c .before .before .before in
+    let at-modifiers = at-item-use .before .before .before .before .before in
+    let at-records-of = at-modifiers .before in
+    let start = at-records-of .before .before .before .before .before .before in
+    let rs = treeOf (start .args .table .now) in
+    parsed rs (useItem rs) (at-records-of .records-of .ensures) (at-modifiers .modifiers .ensures ▹ at-item-use .item-use .ensures)
+    (c .left-over .ensures .ran _ (at-item-use .item-use .last .1 .1 .0) (at-item-use .item-use .last .1 .1 .1 .0))
 
 pub use-item-spec : {M : Type 1} → statement M
 use-item-spec =

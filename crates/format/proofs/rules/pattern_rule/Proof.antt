@@ -8,23 +8,51 @@ use Rattle.format.proofs.rules.pattern_rule.Tie as tie
 
 returns : tie.Need-returns
 unfolding patternRule byteOf factsOf
-returns c = if-so _ _ (c .before .before .before .before .before .before .is-kind .ensures) (c .before .before .before .before .before .if1 .taken) (c .before .before .pat .ensures)
+returns c =
+    let then1 = c .before .before .before .before .before in
+    if-so _ _ (then1 .before .is-kind .ensures) (then1 .if1 .taken) (c .before .before .pat .ensures)
 
 returns-2 : tie.Need-returns-2
 unfolding patternRule byteOf factsOf
-returns-2 c = if-not _ _ (c .before .before .before .before .before .before .before .before .is-kind .ensures) (c .before .before .before .before .before .before .before .if1 .left) (if-so _ _ (c .before .before .before .before .before .before .is-kind2 .ensures) (c .before .before .before .before .before .if2 .taken) (c .before .before .pat-array .ensures))
+returns-2 c =
+    let then2 = c .before .before .before .before .before in
+    let else1 = then2 .before .before in
+    if-not _ _ (else1 .before .is-kind .ensures) (else1 .if1 .left)
+    (if-so _ _ (then2 .before .is-kind2 .ensures) (then2 .if2 .taken) (c .before .before .pat-array .ensures))
 
 returns-3 : tie.Need-returns-3
 unfolding patternRule byteOf factsOf
-returns-3 c = if-not _ _ (c .before .before .before .before .before .before .before .before .before .before .is-kind .ensures) (c .before .before .before .before .before .before .before .before .before .if1 .left) (if-not _ _ (c .before .before .before .before .before .before .before .before .is-kind2 .ensures) (c .before .before .before .before .before .before .before .if2 .left) (if-so _ _ (c .before .before .before .before .before .before .is-kind3 .ensures) (c .before .before .before .before .before .if3 .taken) (c .before .before .pat-tuple .ensures)))
+returns-3 c =
+    let then3 = c .before .before .before .before .before in
+    let else2 = then3 .before .before in
+    let else1 = else2 .before .before in
+    if-not _ _ (else1 .before .is-kind .ensures) (else1 .if1 .left)
+    (if-not _ _ (else2 .before .is-kind2 .ensures) (else2 .if2 .left)
+    (if-so _ _ (then3 .before .is-kind3 .ensures) (then3 .if3 .taken) (c .before .before .pat-tuple .ensures)))
 
 returns-4 : tie.Need-returns-4
 unfolding patternRule byteOf factsOf
-returns-4 c = if-not _ _ (c .before .before .before .before .before .before .before .before .before .before .before .before .is-kind .ensures) (c .before .before .before .before .before .before .before .before .before .before .before .if1 .left) (if-not _ _ (c .before .before .before .before .before .before .before .before .before .before .is-kind2 .ensures) (c .before .before .before .before .before .before .before .before .before .if2 .left) (if-not _ _ (c .before .before .before .before .before .before .before .before .is-kind3 .ensures) (c .before .before .before .before .before .before .before .if3 .left) (if-so _ _ (c .before .before .before .before .before .before .is-kind4 .ensures) (c .before .before .before .before .before .if4 .taken) (c .before .before .pat-object .ensures))))
+returns-4 c =
+    let then4 = c .before .before .before .before .before in
+    let else3 = then4 .before .before in
+    let else2 = else3 .before .before in
+    let else1 = else2 .before .before in
+    if-not _ _ (else1 .before .is-kind .ensures) (else1 .if1 .left)
+    (if-not _ _ (else2 .before .is-kind2 .ensures) (else2 .if2 .left)
+    (if-not _ _ (else3 .before .is-kind3 .ensures) (else3 .if3 .left)
+    (if-so _ _ (then4 .before .is-kind4 .ensures) (then4 .if4 .taken) (c .before .before .pat-object .ensures))))
 
 returns-5 : tie.Need-returns-5
 unfolding patternRule byteOf factsOf
-returns-5 c = if-not _ _ (c .before .before .before .before .before .before .before .before .before .before .before .before .is-kind .ensures) (c .before .before .before .before .before .before .before .before .before .before .before .if1 .left) (if-not _ _ (c .before .before .before .before .before .before .before .before .before .before .is-kind2 .ensures) (c .before .before .before .before .before .before .before .before .before .if2 .left) (if-not _ _ (c .before .before .before .before .before .before .before .before .is-kind3 .ensures) (c .before .before .before .before .before .before .before .if3 .left) (if-not _ _ (c .before .before .before .before .before .before .is-kind4 .ensures) (c .before .before .before .before .before .if4 .left) (c .before .before .body-rule .ensures))))
+returns-5 c =
+    let else4 = c .before .before .before .before .before in
+    let else3 = else4 .before .before in
+    let else2 = else3 .before .before in
+    let else1 = else2 .before .before in
+    if-not _ _ (else1 .before .is-kind .ensures) (else1 .if1 .left)
+    (if-not _ _ (else2 .before .is-kind2 .ensures) (else2 .if2 .left)
+    (if-not _ _ (else3 .before .is-kind3 .ensures) (else3 .if3 .left)
+    (if-not _ _ (else4 .before .is-kind4 .ensures) (else4 .if4 .left) (c .before .before .body-rule .ensures))))
 
 pub pattern-rule-spec : {M : Type 1} → statement M
 pattern-rule-spec =

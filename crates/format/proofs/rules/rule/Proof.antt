@@ -8,15 +8,25 @@ use Rattle.format.proofs.rules.rule.Tie as tie
 
 returns : tie.Need-returns
 unfolding rule byteOf factsOf
-returns c = if-so _ _ (c .before .before .before .before .before .before .is-kind .ensures) (c .before .before .before .before .before .if1 .taken) (c .before .before .path .ensures)
+returns c =
+    let then1 = c .before .before .before .before .before in
+    if-so _ _ (then1 .before .is-kind .ensures) (then1 .if1 .taken) (c .before .before .path .ensures)
 
 returns-2 : tie.Need-returns-2
 unfolding rule byteOf factsOf
-returns-2 c = if-not _ _ (c .before .before .before .before .before .before .before .before .is-kind .ensures) (c .before .before .before .before .before .before .before .if1 .left) (if-so _ _ (c .before .before .before .before .before .before .is-kind2 .ensures) (c .before .before .before .before .before .if2 .taken) (c .before .before .path-generics .ensures))
+returns-2 c =
+    let then2 = c .before .before .before .before .before in
+    let else1 = then2 .before .before in
+    if-not _ _ (else1 .before .is-kind .ensures) (else1 .if1 .left)
+    (if-so _ _ (then2 .before .is-kind2 .ensures) (then2 .if2 .taken) (c .before .before .path-generics .ensures))
 
 returns-3 : tie.Need-returns-3
 unfolding rule byteOf factsOf
-returns-3 c = if-not _ _ (c .before .before .before .before .before .before .before .before .is-kind .ensures) (c .before .before .before .before .before .before .before .if1 .left) (if-not _ _ (c .before .before .before .before .before .before .is-kind2 .ensures) (c .before .before .before .before .before .if2 .left) (c .before .before .pattern-rule .ensures))
+returns-3 c =
+    let else2 = c .before .before .before .before .before in
+    let else1 = else2 .before .before in
+    if-not _ _ (else1 .before .is-kind .ensures) (else1 .if1 .left)
+    (if-not _ _ (else2 .before .is-kind2 .ensures) (else2 .if2 .left) (c .before .before .pattern-rule .ensures))
 
 pub rule-spec : {M : Type 1} → statement M
 rule-spec =

@@ -8,15 +8,25 @@ use Rattle.format.proofs.rules.use_rule.Tie as tie
 
 returns : tie.Need-returns
 unfolding useRule byteOf factsOf
-returns c = if-so _ _ (c .before .before .before .before .before .before .is-kind .ensures) (c .before .before .before .before .before .if1 .taken) (c .before .before .use-node .ensures)
+returns c =
+    let then1 = c .before .before .before .before .before in
+    if-so _ _ (then1 .before .is-kind .ensures) (then1 .if1 .taken) (c .before .before .use-node .ensures)
 
 returns-2 : tie.Need-returns-2
 unfolding useRule byteOf factsOf
-returns-2 c = if-not _ _ (c .before .before .before .before .before .before .before .before .is-kind .ensures) (c .before .before .before .before .before .before .before .if1 .left) (if-so _ _ (c .before .before .before .before .before .before .is-kind2 .ensures) (c .before .before .before .before .before .if2 .taken) (c .before .before .item-use-group .ensures))
+returns-2 c =
+    let then2 = c .before .before .before .before .before in
+    let else1 = then2 .before .before in
+    if-not _ _ (else1 .before .is-kind .ensures) (else1 .if1 .left)
+    (if-so _ _ (then2 .before .is-kind2 .ensures) (then2 .if2 .taken) (c .before .before .item-use-group .ensures))
 
 returns-3 : tie.Need-returns-3
 unfolding useRule byteOf factsOf
-returns-3 c = if-not _ _ (c .before .before .before .before .is-kind .ensures) (c .before .before .before .if1 .left) (if-not _ _ (c .before .before .is-kind2 .ensures) (c .before .if2 .left) (c .refuse .ensures .ran _ (c .before .before .before .before .before .before .before .before .args .queue .now) (c .before .before .before .before .before .before .before .before .args .out .now)))
+returns-3 c =
+    let else1 = c .before .before .before in
+    let start = else1 .before .before .before .before .before in
+    if-not _ _ (else1 .before .is-kind .ensures) (else1 .if1 .left)
+    (if-not _ _ (c .before .before .is-kind2 .ensures) (c .before .if2 .left) (c .refuse .ensures .ran _ (start .args .queue .now) (start .args .out .now)))
 
 pub use-rule-spec : {M : Type 1} → statement M
 use-rule-spec =

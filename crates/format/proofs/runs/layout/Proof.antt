@@ -12,11 +12,20 @@ use Rattle.format.proofs.runs.layout.Tie as tie
 
 returns : tie.Need-returns
 unfolding layout
-returns c = if-so _ _ refl (le-leb (length (treeOf (c .before .before .before .before .before .before .before .before .args .table .now))) (c .before .before .before .before .before .before .before .before .args .k .0) (omega (arith, c .before .before .before .before .size .ensures, c .before .if1 .taken))) (c .refuse .ensures .ran _ (c .before .before .before .before .before .before .before .before .args .queue .now) (c .before .before .before .before .before .before .before .before .args .out .now))
+returns c =
+    let at-size = c .before .before .before .before in
+    let start = at-size .before .before .before .before in
+    if-so _ _ refl (le-leb (length (treeOf (start .args .table .now))) (start .args .k .0) (omega (arith, at-size .size .ensures, c .before .if1 .taken)))
+    (c .refuse .ensures .ran _ (start .args .queue .now) (start .args .out .now))
 
 returns-2 : tie.Need-returns-2
 unfolding layout
-returns-2 c = if-not _ _ refl (lt-leb (length (treeOf (c .before .before .before .before .before .before .before .before .before .before .before .before .args .table .now))) (c .before .before .before .before .before .before .before .before .before .before .before .before .args .k .0) (omega (arith, c .before .before .before .before .before .before .before .before .size .ensures, c .before .before .before .before .before .if1 .left))) (c .before .before .rule .ensures)
+returns-2 c =
+    let else1 = c .before .before .before .before .before in
+    let at-size = else1 .before .before .before in
+    let start = at-size .before .before .before .before in
+    if-not _ _ refl (lt-leb (length (treeOf (start .args .table .now))) (start .args .k .0) (omega (arith, at-size .size .ensures, else1 .if1 .left)))
+    (c .before .before .rule .ensures)
 
 pub layout-spec : {M : Type 1} → statement M
 layout-spec =

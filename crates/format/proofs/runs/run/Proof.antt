@@ -10,7 +10,19 @@ use Rattle.format.proofs.runs.run.Statement.{statement}
 use Rattle.format.proofs.runs.run.Tie as tie
 
 returns : tie.Need-returns
-returns c = serve-run (c .before .before .before .before .before .before .before .before .before .before .before .before .before .before .before .before .before .before .before .before .before .before .before .before .before .args .source .now) (c .before .before .before .before .before .before .before .before .before .before .before .before .before .before .before .before .before .before .before .before .before .before .before .before .before .args .tree .now) (replicate 32768 0) _ (c .before .before .before .before .before .before .before .before .before .before .before .before .before .before .before .before .before .before .before .before .decode .result) (c .before .before .before .before .before .before .before .before .before .before .before .before .before .before .before .before .before .before .before .before .decode .ensures) (length-replicate {A = ℕ} 32768 0) (c .before .before .before .before .before .before .before .before .before .before .before .before .before .before .before .before .before .before .before .before .before .before .before .before .before .args .s) (c .before .before .before .before .before .before .before .before .before .before .before .before .before .before .before .before .before .before .before .before .before .before .before .before .before .args .out .now) (c .before .before .before .before .before .before .before .before .before .before .before .before .before .before .before .opening .ensures) (c .before .before .before .before .before .before .before .before .before .before .before .before .before .before .started .ensures) (c .before .before .before .before .before .before .before .before .before .before .before .before .before .lent .ensures) (c .before .before .before .before .before .before .before .before .before .before .before .before .ready .ensures) (λ (rs : List Record). layout rs (c .before .before .before .before .before .before .before .before .before .before .before .before .before .before .before .before .before .before .before .before .before .before .before .before .before .args .k)) (c .before .before .before .before .before .before .before .before .before .before .first .ensures) (c .before .before .before .before .before .before .before .layout .ensures) (c .before .before .ended .ensures)
+returns c =
+    let at-layout = c .before .before .before .before .before .before .before in
+    let at-first = at-layout .before .before .before in
+    let at-ready = at-first .before .before in
+    let at-lent = at-ready .before in
+    let at-started = at-lent .before in
+    let at-opening = at-started .before in
+    let at-decode = at-opening .before .before .before .before .before in
+    let start = at-decode .before .before .before .before .before in
+    serve-run (start .args .source .now) (start .args .tree .now) (replicate 32768 0) _ (at-decode .decode .result) (at-decode .decode .ensures)
+    (length-replicate {A = ℕ} 32768 0) (start .args .s) (start .args .out .now) (at-opening .opening .ensures) (at-started .started .ensures)
+    (at-lent .lent .ensures) (at-ready .ready .ensures) (λ (rs : List Record). layout rs (start .args .k)) (at-first .first .ensures)
+    (at-layout .layout .ensures) (c .before .before .ended .ensures)
 
 pub run-spec : {M : Type 1} → statement M
 run-spec =
