@@ -11,7 +11,16 @@ same-length : tie.Need-same-length
 same-length c = keeps (c .before .before .before .replay .ensures)
 
 returns : tie.Need-returns
-returns c = replays (c .before .before .before .before .before .before .before .before .before .before .before .before .before .before .before .before .before .before .before .args .source .now) (c .before .before .before .before .before .before .before .before .before .before .before .before .before .before .before .before .before .before .before .args .tree .now) (replicate 32768 0) _ (c .before .before .before .before .before .before .before .before .before .before .before .before .before .before .before .before .before .before .before .args .records .now) (c .before .before .before .before .before .before .before .before .before .before .before .before .before .before .before .before .before .before .before .args .out .now) (c .before .before .before .before .before .before .before .before .before .before .before .before .before .decode .ensures) (length-replicate {A = ℕ} 32768 0) (c .before .before .before .before .before .before .before .first .ensures) (c .before .before .before .before .before .before .before .before .before .before .before .fresh .ensures) (c .before .before .before .before .started .ensures) (c .before .before .before .replay .ensures) (c .reached .ensures)
+returns c =
+    let at-replay = c .before .before .before in
+    let at-started = at-replay .before in
+    let at-first = at-started .before .before .before in
+    let at-fresh = at-first .before .before .before .before in
+    let at-decode = at-fresh .before .before in
+    let start = at-decode .before .before .before .before .before .before in
+    replays (start .args .source .now) (start .args .tree .now) (replicate 32768 0) _ (start .args .records .now) (start .args .out .now)
+    (at-decode .decode .ensures) (length-replicate {A = ℕ} 32768 0) (at-first .first .ensures) (at-fresh .fresh .ensures) (at-started .started .ensures)
+    (at-replay .replay .ensures) (c .reached .ensures)
 
 pub bench-calls-spec : {M : Type 1} → statement M
 bench-calls-spec =

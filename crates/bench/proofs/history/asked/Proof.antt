@@ -8,16 +8,25 @@ use Rattle.bench.proofs.history.asked.Statement.{statement}
 use Rattle.bench.proofs.history.asked.Tie as tie
 
 returns : tie.Need-returns
-returns c = asked-stopped _ (c .before .before .before .before .before .before .before .args .run) (c .before .before .before .before .before .before .before .args .queue .now) (ap asCall (c .before .before .enum-told .given .1)) (sym (c .before .stopped .ensures) ∙ c .if1 .taken)
+returns c =
+    let start = c .before .before .before .before .before .before .before in
+    asked-stopped _ (start .args .run) (start .args .queue .now) (ap asCall (c .before .before .enum-told .given .1))
+    (sym (c .before .stopped .ensures) ∙ c .if1 .taken)
 
 same-length : tie.Need-same-length
 same-length c = keeps (c .before .before .make-call .ensures)
 
 returns-2 : tie.Need-returns-2
-returns-2 c = asked-made _ (ap asCall (c .before .before .before .before .before .before .d .given .1)) (c .before .before .make-call .ensures)
+returns-2 c =
+    let at-d = c .before .before .before .before .before .before in
+    asked-made _ (ap asCall (at-d .d .given .1)) (c .before .before .make-call .ensures)
 
 returns-3 : tie.Need-returns-3
-returns-3 c = asked-bad _ (c .before .before .before .before .before .before .before .before .args .run) (c .before .before .before .before .before .before .before .before .args .queue .now) (ap asCall (c .before .before .before .enum-told .given .1)) (sym (c .before .before .stopped .ensures) ∙ c .before .if1 .left) (c .refused .ensures)
+returns-3 c =
+    let at-enum-told = c .before .before .before in
+    let start = at-enum-told .before .before .before .before .before in
+    asked-bad _ (start .args .run) (start .args .queue .now) (ap asCall (at-enum-told .enum-told .given .1))
+    (sym (c .before .before .stopped .ensures) ∙ c .before .if1 .left) (c .refused .ensures)
 
 pub asked-spec : {M : Type 1} → statement M
 asked-spec =

@@ -12,10 +12,14 @@ add-n : tie.Need-add-n
 add-n c = omega (arith, c .body .ensures, body-most (getD (c .before .before .before .args .records .now) (c .before .before .before .args .at) 0))
 
 returns : tie.Need-returns
-returns c = record-part (c .before .before .before .before .before .args .records .now) (c .before .before .before .before .before .args .at) _ (ap (1 +_) (c .before .before .body .ensures))
+returns c =
+    let start = c .before .before .before .before .before in
+    record-part (start .args .records .now) (start .args .at) _ (ap (1 +_) (c .before .before .body .ensures))
 
 returns-2 : tie.Need-returns-2
-returns-2 c = record-rest (c .before .before .before .before .before .args .records .now) (c .before .before .before .before .before .args .at) _ (ap (1 +_) (c .before .before .body .ensures)) (c .before .if1 .left)
+returns-2 c =
+    let start = c .before .before .before .before .before in
+    record-rest (start .args .records .now) (start .args .at) _ (ap (1 +_) (c .before .before .body .ensures)) (c .before .if1 .left)
 
 pub record-at-spec : {M : Type 1} → statement M
 record-at-spec =

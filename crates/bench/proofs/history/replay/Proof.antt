@@ -15,13 +15,29 @@ abbrev μ-loop : tie.MeasureT-loop
 μ-loop src table queue₀ out₀ records r₀ at₀ queue out r at = length records - at
 
 add-at : tie.Need-add-at Inv-loop μ-loop
-add-at c = omega (arith, few-bytes (c .before .before .before .before .before .before .before .before .before .before .before .before .before .args .records .now) (c .before .before .before .before .before .before .before .before .loop .at) (c .before .before .before .before .before .before .before .loop-test .taken) (c .before .before .before .before .before .before .record-at .ensures))
+add-at c =
+    let at-record-at = c .before .before .before .before .before .before in
+    let in-loop = at-record-at .before in
+    let at-loop = in-loop .before in
+    let start = at-loop .before .before .before .before .before in
+    omega (arith, few-bytes (start .args .records .now) (at-loop .loop .at) (in-loop .loop-test .taken) (at-record-at .record-at .ensures))
 
 loop-less : tie.Need-loop-less Inv-loop μ-loop
-loop-less c = omega (arith, some-bytes (c .before .before .before .before .before .before .before .before .before .before .before .before .before .args .records .now) (c .before .before .before .before .before .before .before .before .loop .at) (c .before .before .before .before .before .before .before .loop-test .taken) (c .before .before .before .before .before .before .record-at .ensures))
+loop-less c =
+    let at-record-at = c .before .before .before .before .before .before in
+    let in-loop = at-record-at .before in
+    let at-loop = in-loop .before in
+    let start = at-loop .before .before .before .before .before in
+    omega (arith, some-bytes (start .args .records .now) (at-loop .loop .at) (in-loop .loop-test .taken) (at-record-at .record-at .ensures))
 
 loop-again : tie.Need-loop-again Inv-loop μ-loop
-loop-again c = going-more (c .before .before .before .decode .result) (c .before .before .before .before .before .before .before .before .loop .inv) (c .before .before .before .before .before .before .before .loop-test .taken) (c .before .before .before .before .before .before .record-at .ensures) (c .before .before .before .decode .ensures) (c .before .before .asked .ensures)
+loop-again c =
+    let at-decode = c .before .before .before in
+    let at-record-at = at-decode .before .before .before in
+    let in-loop = at-record-at .before in
+    let at-loop = in-loop .before in
+    going-more (at-decode .decode .result) (at-loop .loop .inv) (in-loop .loop-test .taken) (at-record-at .record-at .ensures) (at-decode .decode .ensures)
+    (c .before .before .asked .ensures)
 
 same-length : tie.Need-same-length Inv-loop μ-loop
 same-length c = c .before .loop .inv .long
