@@ -23,14 +23,14 @@ use Rattle.entry.specs.Served.{stateOf, encoded, leftOf, Served, recordLeft}
 use Rattle.meaning.proofs.Kept.{Bounded, record-bounded}
 use Rattle.format.specs.Rules.{laidOut}
 use Rattle.format.proofs.TameRules.{layout-tame}
-use Rattle.savetnuok.specs.Words.{wordAt, inBytes}
-use Rattle.savetnuok.specs.StateBytes.{shaped, stateIn, bytesOf}
-use Rattle.savetnuok.specs.CodeState.{codeState, codeWords, Wrote, placeWord, runPlaceWord, Packed}
+use Rattle.words.specs.Words.{wordAt, inBytes}
+use Rattle.words.specs.StateBytes.{shaped, stateIn, bytesOf}
+use Rattle.words.specs.CodeState.{codeState, codeWords, Wrote, placeWord, runPlaceWord, Packed}
 use Rattle.savetnuok.specs.Exported.{packed, thenShape, stateLeft, openAnswer, Opened, Handed, callResult, Called, layoutOf, runResult, Laid}
 use Rattle.savetnuok.proofs.PlaceLaws.{open-placed}
 use Rattle.savetnuok.proofs.ReadLaws.{Agree, agree}
 use Rattle.savetnuok.proofs.RunLaws.{open-word, run-bounded, agree-run}
-use Rattle.savetnuok.proofs.BackLaws.{Words, reads-back, shaped-back}
+use Rattle.words.proofs.BackLaws.{Words, reads-back, shaped-back}
 
 -- ---- answers
 

@@ -1,7 +1,4 @@
-mod WordLaws
-mod StateLaws
 mod PlaceLaws
-mod BackLaws
 mod ReadLaws
 mod RunLaws
 mod ExportLaws

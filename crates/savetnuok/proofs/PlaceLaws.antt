@@ -24,7 +24,7 @@ use Rattle.meaning.specs.Lent.{lentState, lent, serveRecord}
 use Rattle.meaning.specs.Numbers.{refusalSeen, seen}
 use Rattle.meaning.specs.World.{World, made, callRecord}
 use Rattle.savetnuok.specs.Exported.{thenShape}
-use Rattle.savetnuok.specs.CodeState.{refusalPlace, placeWord}
+use Rattle.words.specs.CodeState.{refusalPlace, placeWord}
 
 -- a refusal whose place is the word that the code names, where the lent state has that length and that indent
 pub data Placed (len indent : ℕ) : Outcome → Type 0 where

@@ -23,9 +23,9 @@ use Rattle.queue.specs.Run.{isRefused}
 use Rattle.queue.specs.View.{tab, ringAt}
 use Rattle.entry.specs.Served.{stateOf}
 use Rattle.queue.proofs.TabLaws.{length-tab, tab-same}
-use Rattle.savetnuok.specs.Words.{wordAt}
-use Rattle.savetnuok.specs.StateBytes.{commentAt, stateIn}
-use Rattle.savetnuok.specs.CodeState.{codeState, refusalPlace, placeWord}
+use Rattle.words.specs.Words.{wordAt}
+use Rattle.words.specs.StateBytes.{commentAt, stateIn}
+use Rattle.words.specs.CodeState.{codeState, refusalPlace, placeWord}
 use Rattle.savetnuok.proofs.PlaceLaws.{record-placed}
 
 -- ---- the queue

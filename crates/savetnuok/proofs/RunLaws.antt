@@ -31,9 +31,9 @@ use Rattle.meaning.proofs.Plans.{sticky}
 use Rattle.meaning.proofs.Kept.{Bounded}
 use Rattle.entry.specs.Served.{stateOf}
 use Rattle.format.proofs.Tame.{ByRecord, Tame}
-use Rattle.savetnuok.specs.Words.{wordAt}
-use Rattle.savetnuok.specs.StateBytes.{stateIn}
-use Rattle.savetnuok.specs.CodeState.{codeState, refusalPlace, runIndent, runPlace, runPlaceWord}
+use Rattle.words.specs.Words.{wordAt}
+use Rattle.words.specs.StateBytes.{stateIn}
+use Rattle.words.specs.CodeState.{codeState, refusalPlace, runIndent, runPlace, runPlaceWord}
 use Rattle.savetnuok.proofs.PlaceLaws.{Placed, stops, step-placed}
 use Rattle.savetnuok.proofs.ReadLaws.{early, tests, fifth, Agree, agree-both}
 

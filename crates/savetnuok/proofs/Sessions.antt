@@ -22,11 +22,11 @@ use Rattle.meaning.specs.Demand3.{Demand3}
 use Rattle.meaning.proofs.Numbers.{one-to-twelve}
 use Rattle.meaning.proofs.Leaves.{record-refused, run-refused}
 use Rattle.meaning.proofs.Opens.{demand3-opened}
-use Rattle.savetnuok.specs.Words.{inBytes, wordBytes}
-use Rattle.savetnuok.specs.StateBytes.{shaped, stateIn, bytesOf}
+use Rattle.words.specs.Words.{inBytes, wordBytes}
+use Rattle.words.specs.StateBytes.{shaped, stateIn, bytesOf}
 use Rattle.savetnuok.specs.Exported.{packed, thenShape, openAnswer, Opened, Handed, callResult, Called, layoutOf, runResult, Laid}
 use Rattle.savetnuok.specs.Session.{Turn, eventOf, Session, ended, called, laid}
-use Rattle.savetnuok.proofs.BackLaws.{Words, reads-back, shaped-back}
+use Rattle.words.proofs.BackLaws.{Words, reads-back, shaped-back}
 
 -- ---- a fresh engine
 

@@ -15,7 +15,7 @@ use Rattle.meaning.specs.Numbers.{seen}
 use Rattle.meaning.specs.World.{world, Result, result, callRecord}
 use Rattle.meaning.specs.Plan.{Plan, run}
 use Rattle.format.specs.Rules.{layout}
-use Rattle.savetnuok.specs.StateBytes.{shaped, stateIn, bytesOf}
+use Rattle.words.specs.StateBytes.{shaped, stateIn, bytesOf}
 
 -- 0 for done, else the refusal's number times 2^32, and its place, which each promise says to be below 2^32
 unfoldable pub packed : Answer → ℕ

@@ -1,12 +1,5 @@
 // The functions that a C program links: numbers and byte slices only. Each asks all it needs of what is lent, and promises its answer
 // and every byte of what it may write.
-use crate::numbers::packed;
-use crate::numbers::run_packed;
-use crate::state_bytes::SIZE;
-use crate::state_bytes::read_state;
-use crate::state_bytes::shaped;
-use crate::state_bytes::write_state;
-use crate::words::word;
 use entry::checks::opening;
 use entry::engine::record;
 use entry::state::fresh;
@@ -14,14 +7,17 @@ use format::runs::run;
 use meaning::answer::Answer;
 use meaning::answer::Refusal;
 use tree::record::RecordNo;
+use words::numbers::packed;
+use words::numbers::run_packed;
+use words::state_bytes::SIZE;
+use words::state_bytes::read_state;
+use words::state_bytes::shaped;
+use words::state_bytes::write_state;
+use words::word::word;
 ghost use mathlib.Core.Path.{_≡_};
 ghost use mathlib.Core.Bool.{false};
 ghost use Rattle.queue.specs.Run.{isRefused};
 ghost use Rattle.savetnuok.specs.Exported.{thenShape, Opened, Called, Laid};
-
-mod numbers;
-mod state_bytes;
-mod words;
 
 // What is answered where the shape is wrong: 1, 2, 3, 7, else 5 at place 8,192.
 fn misshapen(a: Answer) -> Answer

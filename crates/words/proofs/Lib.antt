@@ -1,0 +1,3 @@
+mod WordLaws
+mod StateLaws
+pub mod BackLaws

@@ -1,0 +1,3 @@
+pub mod Words
+pub mod StateBytes
+pub mod CodeState
