@@ -25,11 +25,11 @@ use Rattle.format.specs.Rules.{laidOut}
 use Rattle.format.proofs.TameRules.{layout-tame}
 use Rattle.words.specs.Words.{wordAt, inBytes}
 use Rattle.words.specs.StateBytes.{shaped, stateIn, bytesOf}
-use Rattle.words.specs.CodeState.{codeState, codeWords, Wrote, placeWord, runPlaceWord, Packed}
+use Rattle.words.specs.CodeState.{codeState, codeWords, Wrote, placeWord, Packed}
 use Rattle.savetnuok.specs.Exported.{packed, thenShape, stateLeft, openAnswer, Opened, Handed, callResult, Called, layoutOf, runResult, Laid}
-use Rattle.savetnuok.proofs.PlaceLaws.{open-placed}
+use Rattle.savetnuok.proofs.PlaceLaws.{open-placed, shape-placed}
 use Rattle.savetnuok.proofs.ReadLaws.{Agree, agree}
-use Rattle.savetnuok.proofs.RunLaws.{open-word, run-bounded, agree-run}
+use Rattle.savetnuok.proofs.RunLaws.{run-bounded, agree-run}
 use Rattle.words.proofs.BackLaws.{Words, reads-back, shaped-back}
 
 -- ---- answers
@@ -59,17 +59,17 @@ record Answers (n : ℕ) (a : Answer) : Type 0 where
   number : n ≡ packed a
   fits : seen a .place < 0x100000000
 
-packs : {n p : ℕ} (a a′ : Answer) → Packed p a′ n → seen a .number ≡ seen a′ .number → seen a .place ≡ p → Answers n a
+packs : {n indent : ℕ} (a a′ : Answer) → Packed indent a′ n → seen a .number ≡ seen a′ .number → seen a .place ≡ placeWord indent a′ → Answers n a
 unfolding packed
 packs a a′ q h k = record { number = q .is ∙ rw (h, k); fits = rw k (q .fits) }
 
-packs-open : {n : ℕ} (src tree : List ℕ) (t : Bool) (a : Answer) → a ≡ thenShape (opening src tree) t → Packed (placeWord 0 0 a) a n → Answers n (thenShape (opening src tree) t)
-packs-open src tree t a ea p = packs (thenShape (opening src tree) t) a p (rw ea) (rw ea (open-placed (opened src tree) t 0 0))
+packs-open : {n : ℕ} (src tree : List ℕ) (t : Bool) (a : Answer) → a ≡ thenShape (opening src tree) t → Packed 0 a n → Answers n (thenShape (opening src tree) t)
+packs-open src tree t a ea p = packs (thenShape (opening src tree) t) a p (rw ea) (rw ea (shape-placed (opening src tree) t 0 (open-placed (opened src tree) 0)))
 
 -- ---- open
 
 module _ (src tree st : List ℕ) where
-  pub open-misshapen : {n : ℕ} {a a′ : Answer} → a ≡ opening src tree → (length st ≡ 4128 → ⊥) → a′ ≡ thenShape a false → Packed (placeWord 0 0 a′) a′ n → Opened src tree st n st
+  pub open-misshapen : {n : ℕ} {a a′ : Answer} → a ≡ opening src tree → (length st ≡ 4128 → ⊥) → a′ ≡ thenShape a false → Packed 0 a′ n → Opened src tree st n st
   open-misshapen {n} {a} {a′} ea h ea′ en =
       let t : eqb (length st) 4128 ≡ false = ne-eqb (length st) 4128 h in
       let p = packs-open src tree false a′ (ea′ ∙ ap (λ (y : Answer). thenShape y false) ea) en in
@@ -83,7 +83,7 @@ module _ (src tree st : List ℕ) where
     good : openAnswer src tree st ≡ a
     good = ap (thenShape (opening src tree)) (eq-eqb (length st) 4128 sized) ∙ then-good (opening src tree) ∙ sym ea
 
-    pub open-refused : {n : ℕ} {t : Bool} → t ≡ isRefused a → t ≡ true → Packed (placeWord 0 0 a) a n → Opened src tree st n st
+    pub open-refused : {n : ℕ} {t : Bool} → t ≡ isRefused a → t ≡ true → Packed 0 a n → Opened src tree st n st
     open-refused {n} {t} et h en =
         let p = packs-open src tree (eqb (length st) 4128) a (sym good) en in
         record { answer = p .number; place-fits = p .fits; state = rw good (stays st a fresh (sym et ∙ h)) }
@@ -131,18 +131,18 @@ handed-refused st r h en eb = record {
 
 -- the shape is wrong
 handed-misshapen : (src tree st b : List ℕ) (r : Result) {n : ℕ} {a a′ : Answer} → r ≡ result (thenShape (opening src tree) false) (world (stateIn st) b) → a ≡ opening src tree → a′ ≡ thenShape a false
-    → Packed (placeWord 0 0 a′) a′ n → Handed st r n st b
+    → Packed 0 a′ n → Handed st r n st b
 handed-misshapen src tree st b r {n} {a} {a′} er ea ea′ en =
     handed-refused st r (rw er (then-bad (opening src tree))) (rw er (packs-open src tree false a′ (ea′ ∙ ap (λ (y : Answer). thenShape y false) ea) en)) (rw er)
 
 -- ---- the state has the shape, and the engine was asked: r is what the bytes mean, r′ what the engine was asked
 
-module _ (st b : List ℕ) {t : Bool} (et : t ≡ shaped st (length b)) (ht : t ≡ true) {z : Step} {b′ : List ℕ} {word : Answer → ℕ} (r r′ : Result) (agreed : Agree word r r′)
+module _ (st b : List ℕ) {t : Bool} (et : t ≡ shaped st (length b)) (ht : t ≡ true) {z : Step} {b′ : List ℕ} {indent : ℕ} (r r′ : Result) (agreed : Agree indent r r′)
     (served : Served (codeState st) z b′ r′) where
   answered : z .answer ≡ r′ .answer
   answered = ap (λ (y : Step). y .answer) (served .step) ∙ left-answer (codeState st) (r′ .answer) (r′ .left .state)
 
-  asked-refused : {n : ℕ} {u : Bool} → u ≡ isRefused (z .answer) → u ≡ true → Packed (word (z .answer)) (z .answer) n → Handed st r n st b′
+  asked-refused : {n : ℕ} {u : Bool} → u ≡ isRefused (z .answer) → u ≡ true → Packed indent (z .answer) n → Handed st r n st b′
   asked-refused {n} {u} eu hu en =
       handed-refused st r (agreed .alike ∙ ap isRefused (sym answered) ∙ sym eu ∙ hu) (packs (r .answer) (r′ .answer) (rw answered at en) (agreed .number) (agreed .place)) (served .buffer ∙ sym (agreed .buffer))
 
@@ -183,13 +183,13 @@ refused-first Done x w bytes h = let z : _≡_ {A = ℕ} 0 1 = cc in absurd (ome
 refused-first (Refused r) x w bytes h = refl
 
 module _ (src tree st b bytes : List ℕ) {t : Bool} (et : t ≡ shaped st (length b)) where
-  pub call-misshapen : {n : ℕ} {a a′ : Answer} → t ≡ false → a ≡ opening src tree → a′ ≡ thenShape a false → Packed (placeWord 0 0 a′) a′ n → Called src tree st b bytes n st b
+  pub call-misshapen : {n : ℕ} {a a′ : Answer} → t ≡ false → a ≡ opening src tree → a′ ≡ thenShape a false → Packed 0 a′ n → Called src tree st b bytes n st b
   call-misshapen h ea ea′ en =
       let f : shaped st (length b) ≡ false = sym et ∙ h in
       handed-misshapen src tree st b (callResult src tree st b bytes)
       (rw f (refused-first (thenShape (opening src tree) false) (scriptIn src tree) (world (stateIn st) b) bytes (then-bad (opening src tree)))) ea ea′ en
 
-  module _ (ht : t ≡ true) {s : code.State} (es : s ≡ codeState st) {z : Step} {b′ : List ℕ} (promised : Served s z b′ (recordLeft src tree s b bytes)) where
+  module _ (ht : t ≡ true) {s : code.State} (es : s ≡ codeState st) (small : s .now .len < 0x100000000) {z : Step} {b′ : List ℕ} (promised : Served s z b′ (recordLeft src tree s b bytes)) where
     by-engine : Result
     by-engine = recordLeft src tree (codeState st) b bytes
 
@@ -197,19 +197,21 @@ module _ (src tree st b bytes : List ℕ) {t : Bool} (et : t ≡ shaped st (leng
     unfolding by-engine
     served = rw es at promised
 
-    agreed : Agree (placeWord (wordAt st 0) (wordAt st 4)) (callResult src tree st b bytes) by-engine
+    len-small : wordAt st 0 < 0x100000000
+    len-small = rw es at small
+
+    agreed : Agree (wordAt st 4) (callResult src tree st b bytes) by-engine
     unfolding by-engine
     agreed =
         let f : shaped st (length b) ≡ true = sym et ∙ ht in
-        rw (f, then-good (opening src tree)) (agree (opening src tree) (scriptIn src tree) st b bytes (rw (then-good (opening src tree)) at (open-placed (opened src tree) true (wordAt st 0) (wordAt st 4))))
+        rw (f, then-good (opening src tree)) (agree (opening src tree) (scriptIn src tree) st b bytes len-small (open-placed (opened src tree) (wordAt st 4)))
 
     bounded : by-engine .answer ≡ Done → Bounded (length b) (by-engine .left .state)
     unfolding by-engine
     bounded = record-bounded (opening src tree) (scriptIn src tree) (world (stateOf (codeState st)) b) bytes
 
-    pub call-refused : {n len indent : ℕ} {u : Bool} → u ≡ isRefused (z .answer) → u ≡ true → len ≡ wordAt st 0 → indent ≡ wordAt st 4
-        → Packed (placeWord len indent (z .answer)) (z .answer) n → Called src tree st b bytes n st b′
-    call-refused eu hu el ei en = asked-refused st b et ht (callResult src tree st b bytes) by-engine agreed served eu hu (rw (el, ei) at en)
+    pub call-refused : {n indent : ℕ} {u : Bool} → u ≡ isRefused (z .answer) → u ≡ true → indent ≡ wordAt st 4 → Packed indent (z .answer) n → Called src tree st b bytes n st b′
+    call-refused eu hu ei en = asked-refused st b et ht (callResult src tree st b bytes) by-engine agreed served eu hu (rw ei at en)
 
     module _ {u : Bool} (eu : u ≡ isRefused (z .answer)) (hu : u ≡ false) where
       pub call-len : z .state .now .len < 4294967296
@@ -221,7 +223,7 @@ module _ (src tree st b bytes : List ℕ) {t : Bool} (et : t ≡ shaped st (leng
 -- ---- run
 
 module _ (src tree st b : List ℕ) (k : ℕ) {t : Bool} (et : t ≡ shaped st (length b)) where
-  pub run-misshapen : {n : ℕ} {a a′ : Answer} → t ≡ false → a ≡ opening src tree → a′ ≡ thenShape a false → Packed (placeWord 0 0 a′) a′ n → Laid src tree st b k n st b
+  pub run-misshapen : {n : ℕ} {a a′ : Answer} → t ≡ false → a ≡ opening src tree → a′ ≡ thenShape a false → Packed 0 a′ n → Laid src tree st b k n st b
   run-misshapen h ea ea′ en = let f : shaped st (length b) ≡ false = sym et ∙ h in handed-misshapen src tree st b (runResult src tree st b k) (rw f) ea ea′ en
 
   module _ (ht : t ≡ true) {s : code.State} (es : s ≡ codeState st) (small : s .now .len < 0x100000000) {z : Step} {b′ : List ℕ} (promised : Served s z b′ (laidOut src tree s b (record { 0 = k }))) where
@@ -232,22 +234,22 @@ module _ (src tree st b : List ℕ) (k : ℕ) {t : Bool} (et : t ≡ shaped st (
     unfolding by-rules
     laid-served = rw es at promised
 
-    len-small : wordAt st 0 < 0x100000000
-    len-small = rw es at small
+    laid-small : wordAt st 0 < 0x100000000
+    laid-small = rw es at small
 
-    laid-agreed : Agree (runPlaceWord (wordAt st 4)) (runResult src tree st b k) by-rules
+    laid-agreed : Agree (wordAt st 4) (runResult src tree st b k) by-rules
     unfolding by-rules
     laid-agreed =
         let f : shaped st (length b) ≡ true = sym et ∙ ht in
-        rw f (agree-run (opening src tree) (scriptIn src tree) st b (layoutOf tree k) len-small (shape-fits st (length b) et ht) (open-word (opened src tree) (wordAt st 4)) (layout-tame (records tree) (record { 0 = k })))
+        rw f (agree-run (opening src tree) (scriptIn src tree) st b (layoutOf tree k) laid-small (shape-fits st (length b) et ht) (open-placed (opened src tree) (wordAt st 4)) (layout-tame (records tree) (record { 0 = k })))
 
     laid-bounded : by-rules .answer ≡ Done → Bounded (length b) (by-rules .left .state)
     unfolding by-rules
     laid-bounded =
-        run-bounded (scriptIn src tree) (world (stateOf (codeState st)) b) len-small (opening src tree) (open-word (opened src tree) (min (wordAt st 4) 255)) (shape-fits st (length b) et ht) (layoutOf tree k)
+        run-bounded (scriptIn src tree) (world (stateOf (codeState st)) b) laid-small (opening src tree) (open-placed (opened src tree) (min (wordAt st 4) 255)) (shape-fits st (length b) et ht) (layoutOf tree k)
         (layout-tame (records tree) (record { 0 = k }))
 
-    pub run-refused : {n indent : ℕ} {u : Bool} → u ≡ isRefused (z .answer) → u ≡ true → indent ≡ wordAt st 4 → Packed (runPlaceWord indent (z .answer)) (z .answer) n → Laid src tree st b k n st b′
+    pub run-refused : {n indent : ℕ} {u : Bool} → u ≡ isRefused (z .answer) → u ≡ true → indent ≡ wordAt st 4 → Packed indent (z .answer) n → Laid src tree st b k n st b′
     run-refused eu hu ei en = asked-refused st b et ht (runResult src tree st b k) by-rules laid-agreed laid-served eu hu (rw ei at en)
 
     module _ {u : Bool} (eu : u ≡ isRefused (z .answer)) (hu : u ≡ false) where

@@ -26,7 +26,7 @@ use Rattle.queue.proofs.TabLaws.{length-tab, tab-same}
 use Rattle.words.specs.Words.{wordAt}
 use Rattle.words.specs.StateBytes.{commentAt, stateIn}
 use Rattle.words.specs.CodeState.{codeState, refusalPlace, placeWord}
-use Rattle.savetnuok.proofs.PlaceLaws.{record-placed}
+use Rattle.savetnuok.proofs.PlaceLaws.{handed-indent, record-placed}
 
 -- ---- the queue
 
@@ -79,16 +79,16 @@ fifth x s = ltb 256 (length (s .queue)) || anyOutside (x .source) (s .queue)
 
 -- ---- so the two results agree
 
--- r is what the bytes mean, r′ what the engine was asked; `word` is the word that the code hands out as a place
-pub record Agree (word : Answer → ℕ) (r r′ : Result) : Type 0 where
+-- r is what the bytes mean, r′ what the engine was asked; the code names the place by r′ and the lent indent
+pub record Agree (indent : ℕ) (r r′ : Result) : Type 0 where
   pub number : seen (r .answer) .number ≡ seen (r′ .answer) .number
-  pub place : seen (r .answer) .place ≡ word (r′ .answer)
+  pub place : seen (r .answer) .place ≡ placeWord indent (r′ .answer)
   pub alike : isRefused (r .answer) ≡ isRefused (r′ .answer)
   pub buffer : r .left .buffer ≡ r′ .left .buffer
   pub same : r′ .answer ≡ Done → r ≡ r′
 
-agree-refused : {word : Answer → ℕ} (r r′ : Refusal) (w w′ : World) → refusalSeen r .number ≡ refusalSeen r′ .number → refusalSeen r .place ≡ word (Refused r′) → w .buffer ≡ w′ .buffer
-    → Agree word (result (Refused r) w) (result (Refused r′) w′)
+agree-refused : {indent : ℕ} (r r′ : Refusal) (w w′ : World) → refusalSeen r .number ≡ refusalSeen r′ .number → refusalSeen r .place ≡ refusalPlace indent r′ → w .buffer ≡ w′ .buffer
+    → Agree indent (result (Refused r) w) (result (Refused r′) w′)
 agree-refused r r′ w w′ n p b = record { number = n; place = p; alike = refl; buffer = b; same = λ e. let z : _≡_ {A = ℕ} 0 1 = cc in absurd (omega arith) }
 
 early-number : (a : Answer) (t4 t5 : Bool) (len indent indent′ : ℕ) → refusalSeen (early a t4 t5 len indent) .number ≡ refusalSeen (early a t4 t5 len indent′) .number
@@ -97,30 +97,36 @@ early-number Done false true len indent indent′ = refl
 early-number Done false false len indent indent′ = refl
 early-number (Refused r) t4 t5 len indent indent′ = refl
 
+early-placed : (a : Answer) (t4 t5 : Bool) (len indent : ℕ) → len < 0x100000000 → seen a .place ≡ placeWord indent a
+    → refusalSeen (early a t4 t5 len indent) .place ≡ refusalPlace indent (early a t4 t5 len (min indent 255))
+early-placed Done true t5 len indent l e = omega arith
+early-placed Done false true len indent l e = refl
+early-placed Done false false len indent l e = handed-indent indent
+early-placed (Refused r) t4 t5 len indent l e = e
+
 -- for whatever is asked of a state: refused early it leaves the state, and a buffer that hangs on its length
-module _ (a : Answer) (x : Script) (st b : List ℕ) (does : State → Result) (left : ℕ → List ℕ) (word : Answer → ℕ)
+module _ (a : Answer) (x : Script) (st b : List ℕ) (does : State → Result) (left : ℕ → List ℕ)
     (stopped : (s : State) → fifth x s || ltb 64 (s .indent) ≡ true → does s ≡ result (Refused (early a (ltb (length b) (s .len)) (fifth x s) (s .len) (s .indent))) (world s (left (s .len))))
-    (placed : seen (does (stateIn st) .answer) .place ≡ word (does (stateIn st) .answer))
-    (placed-early : (t4 t5 : Bool) → refusalSeen (early a t4 t5 (wordAt st 0) (wordAt st 4)) .place ≡ word (Refused (early a t4 t5 (wordAt st 0) (min (wordAt st 4) 255)))) where
-  same-state : stateIn st ≡ stateOf (codeState st) → Agree word (does (stateIn st)) (does (stateOf (codeState st)))
+    (small : wordAt st 0 < 0x100000000) (opened : seen a .place ≡ placeWord (wordAt st 4) a) (placed : seen (does (stateIn st) .answer) .place ≡ placeWord (wordAt st 4) (does (stateIn st) .answer)) where
+  same-state : stateIn st ≡ stateOf (codeState st) → Agree (wordAt st 4) (does (stateIn st)) (does (stateOf (codeState st)))
   same-state h =
       let r : does (stateIn st) ≡ does (stateOf (codeState st)) = ap does h in
       record {
         number = ap (λ (z : Result). seen (z .answer) .number) r;
-        place = placed ∙ ap (λ (z : Result). word (z .answer)) r;
+        place = placed ∙ ap (λ (z : Result). placeWord (wordAt st 4) (z .answer)) r;
         alike = ap (λ (z : Result). isRefused (z .answer)) r;
         buffer = ap (λ (z : Result). z .left .buffer) r;
         same = λ _. r;
       }
 
   both-early : fifth x (stateIn st) ≡ fifth x (stateOf (codeState st)) → fifth x (stateIn st) || ltb 64 (wordAt st 4) ≡ true
-      → fifth x (stateOf (codeState st)) || ltb 64 (min (wordAt st 4) 255) ≡ true → Agree word (does (stateIn st)) (does (stateOf (codeState st)))
+      → fifth x (stateOf (codeState st)) || ltb 64 (min (wordAt st 4) 255) ≡ true → Agree (wordAt st 4) (does (stateIn st)) (does (stateOf (codeState st)))
   unfolding stateIn
   both-early f h h′ =
       rw (stopped (stateIn st) h, stopped (stateOf (codeState st)) h′, f)
-      (agree-refused _ _ _ _ (early-number a (ltb (length b) (wordAt st 0)) (fifth x (stateOf (codeState st))) (wordAt st 0) (wordAt st 4) (min (wordAt st 4) 255)) (placed-early (ltb (length b) (wordAt st 0)) (fifth x (stateOf (codeState st)))) refl)
+      (agree-refused _ _ _ _ (early-number a (ltb (length b) (wordAt st 0)) (fifth x (stateOf (codeState st))) (wordAt st 0) (wordAt st 4) (min (wordAt st 4) 255)) (early-placed a (ltb (length b) (wordAt st 0)) (fifth x (stateOf (codeState st))) (wordAt st 0) (wordAt st 4) small opened) refl)
 
-  many : 256 < wordAt st 6 → Agree word (does (stateIn st)) (does (stateOf (codeState st)))
+  many : 256 < wordAt st 6 → Agree (wordAt st 4) (does (stateIn st)) (does (stateOf (codeState st)))
   unfolding stateIn
   many l =
       let n : length (stateIn st .queue) ≡ wordAt st 6 = length-tab (commentAt st) 0 (wordAt st 6) in
@@ -129,17 +135,17 @@ module _ (a : Answer) (x : Script) (st b : List ℕ) (does : State → Result) (
       let f′ : fifth x (stateOf (codeState st)) ≡ true = rw (n′, lt-ltb 256 (wordAt st 6) l) in
       both-early (f ∙ sym f′) (rw f) (rw f′)
 
-  deep : wordAt st 6 ≤ 256 → 255 < wordAt st 4 → Agree word (does (stateIn st)) (does (stateOf (codeState st)))
+  deep : wordAt st 6 ≤ 256 → 255 < wordAt st 4 → Agree (wordAt st 4) (does (stateIn st)) (does (stateOf (codeState st)))
   deep few l =
       let m : min (wordAt st 4) 255 ≡ 255 = min-eq-right (omega arith) in
       both-early (ap (λ (q : List Comment). ltb 256 (length q) || anyOutside (x .source) q) (queue-same st few)) (rw (lt-ltb 64 (wordAt st 4) (omega arith)) (or-true (fifth x (stateIn st)))) (rw m (or-true (fifth x (stateOf (codeState st)))))
 
-  agree-at : (t u : Bool) → leb (wordAt st 6) 256 ≡ t → leb (wordAt st 4) 255 ≡ u → Agree word (does (stateIn st)) (does (stateOf (codeState st)))
+  agree-at : (t u : Bool) → leb (wordAt st 6) 256 ≡ t → leb (wordAt st 4) 255 ≡ u → Agree (wordAt st 4) (does (stateIn st)) (does (stateOf (codeState st)))
   agree-at true true p q = same-state (state-same st (leb-true (wordAt st 6) 256 p) (leb-true (wordAt st 4) 255 q))
   agree-at true false p q = deep (leb-true (wordAt st 6) 256 p) (leb-false (wordAt st 4) 255 q)
   agree-at false u p q = many (leb-false (wordAt st 6) 256 p)
 
-  pub agree-both : Agree word (does (stateIn st)) (does (stateOf (codeState st)))
+  pub agree-both : Agree (wordAt st 4) (does (stateIn st)) (does (stateOf (codeState st)))
   agree-both = agree-at (leb (wordAt st 6) 256) (leb (wordAt st 4) 255) refl refl
 
 -- ---- a call record
@@ -150,16 +156,8 @@ unfolding callRecord serveRecord lentState
 refused-early (Refused r) x s b bytes h = refl
 refused-early Done x s b bytes h = rw (tests (ltb (length b) (s .len)) (fifth x s) (ltb 64 (s .indent)) (s .len) (s .indent) (asked 0 (decode bytes) (step x (length b) s)) h)
 
-early-placed : (a : Answer) (t4 t5 : Bool) (len indent indent′ : ℕ) → seen a .place ≡ placeWord len indent a
-    → refusalSeen (early a t4 t5 len indent) .place ≡ refusalPlace len indent (early a t4 t5 len indent′)
-early-placed Done true t5 len indent indent′ e = refl
-early-placed Done false true len indent indent′ e = refl
-early-placed Done false false len indent indent′ e = refl
-early-placed (Refused r) t4 t5 len indent indent′ e = e
-
-pub agree : (a : Answer) (x : Script) (st b bytes : List ℕ) → seen a .place ≡ placeWord (wordAt st 0) (wordAt st 4) a
-    → Agree (placeWord (wordAt st 0) (wordAt st 4)) (callRecord a x (world (stateIn st) b) bytes) (callRecord a x (world (stateOf (codeState st)) b) bytes)
+pub agree : (a : Answer) (x : Script) (st b bytes : List ℕ) → wordAt st 0 < 0x100000000 → seen a .place ≡ placeWord (wordAt st 4) a
+    → Agree (wordAt st 4) (callRecord a x (world (stateIn st) b) bytes) (callRecord a x (world (stateOf (codeState st)) b) bytes)
 unfolding stateIn
-agree a x st b bytes e =
-    agree-both a x st b (λ (s : State). callRecord a x (world s b) bytes) (λ _. b) (placeWord (wordAt st 0) (wordAt st 4)) (λ s h. refused-early a x s b bytes h)
-    (record-placed a x (world (stateIn st) b) bytes e) (λ t4 t5. early-placed a t4 t5 (wordAt st 0) (wordAt st 4) (min (wordAt st 4) 255) e)
+agree a x st b bytes small e =
+    agree-both a x st b (λ (s : State). callRecord a x (world s b) bytes) (λ _. b) (λ s h. refused-early a x s b bytes h) small e (record-placed a x (world (stateIn st) b) bytes small e)

@@ -1,17 +1,14 @@
 -- Runs: what a run leaves is within the bounds, the place of its refusal is a word, and the lent state may be read as the code reads it.
 -- Assumes nothing.
 use mathlib.Core.Path.{_≡_, refl, ap, _∙_}
-use mathlib.Core.Bool.{Bool, true, false, cond, _||_}
+use mathlib.Core.Bool.{Bool, true, false, _||_}
 use mathlib.Core.List.{List, []}
-use Prim.Native.Nat.{ℕ, _≤_, _<_, min}
-use native.Mathlib.Nat.{min-eq-left, min-eq-right}
+use Prim.Native.Nat.{ℕ, _≤_, _<_}
 use native.Mathlib.Omega.{arith}
 use lib.ListN.{length}
 use lib.Seq.{sets, length-sets}
-use lib.Dec.{leb, ltb}
-use borrow.Author.Tests.{leb-true, leb-false, ltb-false, le-ltb}
-use Rattle.tree.specs.declared.open.Opening.{Opening}
-use Rattle.tree.specs.declared.open.Opening.the-variants as found
+use lib.Dec.{ltb}
+use borrow.Author.Tests.{ltb-false}
 use Rattle.meaning.specs.declared.call.Call.{Call}
 use Rattle.meaning.specs.declared.answer.Refusal.{Refusal}
 use Rattle.meaning.specs.declared.answer.Refusal.the-variants.{SourceLong, SourceIll, TreeBad, NoRoom, QueueFull, IndentOut, TreeDeep, WrongKind, NoRule, Finished, NoNode, BadCall}
@@ -21,7 +18,6 @@ use Rattle.meaning.specs.State.{Script, State}
 use Rattle.meaning.specs.Pieces.{flat}
 use Rattle.meaning.specs.Outcome.{Outcome, done, refused, refuseIf}
 use Rattle.meaning.specs.Calls.{ifOpen, step}
-use Rattle.meaning.specs.Opening.{answerTo}
 use Rattle.meaning.specs.Lent.{lentState}
 use Rattle.meaning.specs.Numbers.{refusalSeen, seen}
 use Rattle.meaning.specs.World.{World, world, capacity, result, made}
@@ -33,73 +29,48 @@ use Rattle.entry.specs.Served.{stateOf}
 use Rattle.format.proofs.Tame.{ByRecord, Tame}
 use Rattle.words.specs.Words.{wordAt}
 use Rattle.words.specs.StateBytes.{stateIn}
-use Rattle.words.specs.CodeState.{codeState, refusalPlace, runIndent, runPlace, runPlaceWord}
-use Rattle.savetnuok.proofs.PlaceLaws.{Placed, stops, step-placed}
+use Rattle.words.specs.CodeState.{codeState, refusalPlace, placeWord}
+use Rattle.savetnuok.proofs.PlaceLaws.{low-indent, Placed, stops, step-placed}
 use Rattle.savetnuok.proofs.ReadLaws.{early, tests, fifth, Agree, agree-both}
-
--- ---- the place as a word
-
--- a call refused from a state within the bounds
-run-word : {len indent : ℕ} (lent : ℕ) (r : Refusal) → len < 0x100000000 → indent ≤ 64 → refusalSeen r .place ≡ refusalPlace len indent r → refusalSeen r .place ≡ runPlace lent r
-run-word lent SourceLong l i e = refl
-run-word lent (SourceIll p) l i e = refl
-run-word lent (TreeBad k) l i e = refl
-run-word lent (NoRoom n) l i e = omega arith
-run-word lent (QueueFull k) l i e = refl
-run-word lent (IndentOut n) l i e = rw (le-ltb 64 n (omega arith))
-run-word lent (TreeDeep k) l i e = refl
-run-word lent (WrongKind k) l i e = refl
-run-word lent (NoRule k) l i e = refl
-run-word lent (Finished n) l i e = omega arith
-run-word lent (NoNode k) l i e = refl
-run-word lent (BadCall p) l i e = omega arith
-
--- a refusal of the plan's own
-record-word : (lent : ℕ) (r : Refusal) → ByRecord r → refusalSeen r .place ≡ runPlace lent r
-record-word lent SourceLong h = absurd h
-record-word lent (SourceIll p) h = absurd h
-record-word lent (TreeBad k) h = refl
-record-word lent (NoRoom n) h = absurd h
-record-word lent (QueueFull k) h = refl
-record-word lent (IndentOut n) h = absurd h
-record-word lent (TreeDeep k) h = refl
-record-word lent (WrongKind k) h = refl
-record-word lent (NoRule k) h = refl
-record-word lent (Finished n) h = absurd h
-record-word lent (NoNode k) h = refl
-record-word lent (BadCall p) h = absurd h
-
--- what opening answers
-pub open-word : (o : Opening) (lent : ℕ) → seen (answerTo o) .place ≡ runPlaceWord lent (answerTo o)
-open-word (found.Good n) lent = refl
-open-word found.SourceLong lent = refl
-open-word (found.SourceIll i) lent = refl
-open-word (found.TreeBad i) lent = refl
-open-word (found.TreeDeep i) lent = refl
 
 -- ---- along a plan
 
--- so far nothing was refused and the state is within the bounds; or the refusal's place is its word
-data Within (lent cap : ℕ) : Answer → World → Type 0 where
-  goes : {w : World} → capacity w ≡ cap → Bounded cap (w .state) → Within lent cap Done w
-  ends : {r : Refusal} {w : World} → refusalSeen r .place ≡ runPlace lent r → Within lent cap (Refused r) w
+-- the place of a refusal of its own
+own-placed : (indent : ℕ) (r : Refusal) → ByRecord r → refusalSeen r .place ≡ refusalPlace indent r
+own-placed indent SourceLong h = absurd h
+own-placed indent (SourceIll p) h = absurd h
+own-placed indent (TreeBad k) h = refl
+own-placed indent (NoRoom n) h = absurd h
+own-placed indent (QueueFull k) h = refl
+own-placed indent (IndentOut n) h = absurd h
+own-placed indent (TreeDeep k) h = refl
+own-placed indent (WrongKind k) h = refl
+own-placed indent (NoRule k) h = refl
+own-placed indent (Finished n) h = absurd h
+own-placed indent (NoNode k) h = refl
+own-placed indent (BadCall p) h = absurd h
 
-place-of : {len indent : ℕ} {r : Refusal} → Placed len indent (refused r) → refusalSeen r .place ≡ refusalPlace len indent r
+-- so far nothing was refused and the state is within the bounds; or the refusal's place is its word
+data Within (indent cap : ℕ) : Answer → World → Type 0 where
+  goes : {w : World} → capacity w ≡ cap → Bounded cap (w .state) → Within indent cap Done w
+  ends : {r : Refusal} {w : World} → refusalSeen r .place ≡ refusalPlace indent r → Within indent cap (Refused r) w
+
+place-of : {indent : ℕ} {r : Refusal} → Placed indent (refused r) → refusalSeen r .place ≡ refusalPlace indent r
 place-of (stops e) = e
 
-module _ (x : Script) (lent cap : ℕ) (fits : cap ≤ 0xFFFFFFFF) where
-  made-within : (w : World) (c : Call) → capacity w ≡ cap → Bounded cap (w .state) → (o : Outcome) → step x (capacity w) (w .state) c ≡ o → Within lent cap (made w o .answer) (made w o .left)
+module _ (x : Script) (indent cap : ℕ) (fits : cap ≤ 0xFFFFFFFF) where
+  made-within : (w : World) (c : Call) → capacity w ≡ cap → Bounded cap (w .state) → (o : Outcome) → step x (capacity w) (w .state) c ≡ o → Within indent cap (made w o .answer) (made w o .left)
   made-within w c l b (done s ps) e =
       let f = fair x (capacity w) c e in
       goes {w = world s (sets (w .buffer) (w .state .len) (flat ps))} (length-sets (w .buffer) (w .state .len) (flat ps) ∙ l) (record { fits = omega (arith, f .fits (omega (arith, b .fits))); room = f .room (b .room); level = f .level (b .level) })
-  made-within w c l b (refused r) e = ends (run-word lent r (omega (arith, b .fits)) (b .level) (place-of (rw e at (step-placed x (capacity w) (w .state) c))))
+  made-within w c l b (refused r) e = ends (place-of (rw e at (step-placed x (capacity w) (w .state) (omega (arith, b .fits)) (low-indent indent (b .level)) c)))
 
-  exec-within : (p : Plan) → Tame p → (a : Answer) (w : World) → Within lent cap a w → Within lent cap (exec x p (result a w) .answer) (exec x p (result a w) .left)
+  exec-within : (p : Plan) → Tame p → (a : Answer) (w : World) → Within indent cap a w → Within indent cap (exec x p (result a w) .answer) (exec x p (result a w) .left)
   unfolding exec
   exec-within nothing t a w h = h
   exec-within (make c) t Done w (goes l b) = made-within w c l b (step x (capacity w) (w .state) c) refl
   exec-within (make c) t (Refused r) w h = h
-  exec-within (refuse r) t Done w h = ends (record-word lent r t)
+  exec-within (refuse r) t Done w h = ends (own-placed indent r t)
   exec-within (refuse r) t (Refused q) w h = h
   exec-within (p then q) t a w h = exec-within q (t .1) (exec x p (result a w) .answer) (exec x p (result a w) .left) (exec-within p (t .0) a w h)
 
@@ -109,14 +80,14 @@ or-left : (a b : Bool) → a || b ≡ false → a ≡ false
 or-left true b e = e
 or-left false b e = refl
 
-refuse-within : {lent cap : ℕ} {w : World} (t : Bool) (r : Refusal) (o : Outcome) → (t ≡ true → refusalSeen r .place ≡ runPlace lent r) → (t ≡ false → Within lent cap (answerOf o) w)
-    → Within lent cap (answerOf (refuseIf t r o)) w
+refuse-within : {indent cap : ℕ} {w : World} (t : Bool) (r : Refusal) (o : Outcome) → (t ≡ true → refusalSeen r .place ≡ refusalPlace indent r) → (t ≡ false → Within indent cap (answerOf o) w)
+    → Within indent cap (answerOf (refuseIf t r o)) w
 unfolding refuseIf
 refuse-within true r o e k = ends (e refl)
 refuse-within false r o e k = k refl
 
 module _ (x : Script) (w : World) (small : w .state .len < 0x100000000) where
-  ready-within : (a : Answer) → seen a .place ≡ runPlaceWord (w .state .indent) a → Within (w .state .indent) (capacity w) (ready a x w) w
+  ready-within : (a : Answer) → seen a .place ≡ placeWord (w .state .indent) a → Within (w .state .indent) (capacity w) (ready a x w) w
   unfolding ready lentState
   ready-within Done e =
       refuse-within _ _ _ (λ _. omega arith) λ f.
@@ -128,16 +99,16 @@ module _ (x : Script) (w : World) (small : w .state .len < 0x100000000) where
 
   -- ---- its end
 
-  back-placed : {lent cap : ℕ} (a : Answer) (w₁ : World) → Within lent cap a w₁ → seen (putBack w (result a w₁) .answer) .place ≡ runPlaceWord lent (putBack w (result a w₁) .answer)
+  back-placed : {indent cap : ℕ} (a : Answer) (w₁ : World) → Within indent cap a w₁ → seen (putBack w (result a w₁) .answer) .place ≡ placeWord indent (putBack w (result a w₁) .answer)
   back-placed Done w₁ h = refl
   back-placed (Refused r) w₁ (ends e) = e
 
-  back-bounded : {lent cap : ℕ} (a : Answer) (w₁ : World) → Within lent cap a w₁ → putBack w (result a w₁) .answer ≡ Done → Bounded cap (putBack w (result a w₁) .left .state)
+  back-bounded : {indent cap : ℕ} (a : Answer) (w₁ : World) → Within indent cap a w₁ → putBack w (result a w₁) .answer ≡ Done → Bounded cap (putBack w (result a w₁) .left .state)
   back-bounded Done w₁ (goes l b) e = b
   back-bounded (Refused r) w₁ h e = let z : _≡_ {A = ℕ} 0 1 = cc in absurd (omega arith)
 
-  module _ (a : Answer) (e : seen a .place ≡ runPlaceWord (w .state .indent) a) (fits : capacity w ≤ 0xFFFFFFFF) (p : Plan) (tame : Tame p) where
-    pub run-placed : seen (run a x w p .answer) .place ≡ runPlaceWord (w .state .indent) (run a x w p .answer)
+  module _ (a : Answer) (e : seen a .place ≡ placeWord (w .state .indent) a) (fits : capacity w ≤ 0xFFFFFFFF) (p : Plan) (tame : Tame p) where
+    pub run-placed : seen (run a x w p .answer) .place ≡ placeWord (w .state .indent) (run a x w p .answer)
     unfolding run
     run-placed = back-placed _ _ (exec-within x (w .state .indent) (capacity w) fits p tame (ready a x w) w (ready-within a e))
 
@@ -157,28 +128,8 @@ module _ (x : Script) (s : State) (b : List ℕ) (h : fifth x s || ltb 64 (s .in
   unfolding run
   run-early a p = rw (ready-early a, sticky x p _ (world s b))
 
--- an indent over 255 is handed on as 255, and its word is found again
-same-indent : (i : ℕ) → i ≡ runIndent i (min i 255)
-same-indent i = go (leb i 255) refl
-  where
-    either : (t : Bool) → i ≡ cond t i i
-    either true = refl
-    either false = refl
-
-    go : (t : Bool) → leb i 255 ≡ t → i ≡ runIndent i (min i 255)
-    go true e = let m : min i 255 ≡ i = min-eq-left (leb-true i 255 e) in rw m (either (ltb 64 i))
-    go false e = let l : 255 < i = leb-false i 255 e in let m : min i 255 ≡ 255 = min-eq-right (omega arith) in rw m
-
-early-word : (a : Answer) (t4 t5 : Bool) (len indent : ℕ) → len < 0x100000000 → seen a .place ≡ runPlaceWord indent a
-    → refusalSeen (early a t4 t5 len indent) .place ≡ runPlace indent (early a t4 t5 len (min indent 255))
-early-word Done true t5 len indent l e = omega arith
-early-word Done false true len indent l e = refl
-early-word Done false false len indent l e = same-indent indent
-early-word (Refused r) t4 t5 len indent l e = e
-
-pub agree-run : (a : Answer) (x : Script) (st b : List ℕ) (p : Plan) → wordAt st 0 < 0x100000000 → length b ≤ 0xFFFFFFFF → seen a .place ≡ runPlaceWord (wordAt st 4) a → Tame p
-    → Agree (runPlaceWord (wordAt st 4)) (run a x (world (stateIn st) b) p) (run a x (world (stateOf (codeState st)) b) p)
+pub agree-run : (a : Answer) (x : Script) (st b : List ℕ) (p : Plan) → wordAt st 0 < 0x100000000 → length b ≤ 0xFFFFFFFF → seen a .place ≡ placeWord (wordAt st 4) a → Tame p
+    → Agree (wordAt st 4) (run a x (world (stateIn st) b) p) (run a x (world (stateOf (codeState st)) b) p)
 unfolding stateIn
 agree-run a x st b p small fits e tame =
-    agree-both a x st b (λ (s : State). run a x (world s b) p) (λ (n : ℕ). zeroed n b) (runPlaceWord (wordAt st 4)) (λ s h. run-early x s b h a p)
-    (run-placed x (world (stateIn st) b) small a e fits p tame) (λ t4 t5. early-word a t4 t5 (wordAt st 0) (wordAt st 4) small e)
+    agree-both a x st b (λ (s : State). run a x (world s b) p) (λ (n : ℕ). zeroed n b) (λ s h. run-early x s b h a p) small e (run-placed x (world (stateIn st) b) small a e fits p tame)

@@ -8,7 +8,6 @@ use meaning::answer::Answer;
 use meaning::answer::Refusal;
 use tree::record::RecordNo;
 use words::numbers::packed;
-use words::numbers::run_packed;
 use words::state_bytes::SIZE;
 use words::state_bytes::read_state;
 use words::state_bytes::shaped;
@@ -45,10 +44,10 @@ pub extern "C" fn savetnuok_open(source: &[u8], tree: &[u8], state: &mut [u8]) -
 {
     let answer = opening(source, tree);
     if state.len() != SIZE {
-        return packed(misshapen(answer), 0, 0);
+        return packed(misshapen(answer), 0);
     }
     if refused(answer) {
-        return packed(answer, 0, 0);
+        return packed(answer, 0);
     }
     write_state(state, fresh());
     0
@@ -66,18 +65,17 @@ pub extern "C" fn savetnuok_call(
     ensures { λ r. ⌜ Called (now (source .entry)) (now (tree .entry)) (now (state .entry)) (now (out .entry)) (now (bytes .entry)) r (now (state .exit)) (now (out .exit)) ⌝ }
 {
     if shaped(state, out.len()) {
-        let len = word(state, 0);
         let indent = word(state, 4);
         let step = record(source, tree, out, read_state(state), bytes);
         let answer = step.answer;
         if refused(answer) {
-            return packed(answer, len, indent);
+            return packed(answer, indent);
         }
         let s = step.state;
         write_state(state, s);
         return 0;
     }
-    packed(misshapen(opening(source, tree)), 0, 0)
+    packed(misshapen(opening(source, tree)), 0)
 }
 
 // A layout run on a node of the tree, on the lent state and buffer. Refused, it zeroes the buffer from the state's length on, unless the
@@ -97,11 +95,11 @@ pub extern "C" fn savetnuok_run(
         let step = run(source, tree, out, read_state(state), RecordNo(node));
         let answer = step.answer;
         if refused(answer) {
-            return run_packed(answer, indent);
+            return packed(answer, indent);
         }
         let s = step.state;
         write_state(state, s);
         return 0;
     }
-    packed(misshapen(opening(source, tree)), 0, 0)
+    packed(misshapen(opening(source, tree)), 0)
 }

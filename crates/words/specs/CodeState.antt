@@ -39,53 +39,32 @@ pub record Wrote (words bytes : List ℕ) : Type 0 where
   pub bytes-are : bytes ≡ inBytes words
   pub fit : (i : ℕ) → getD words i 0 < 0x100000000
 
--- the place as a word: the lent state's length for 4 and 10 and its indent for 6, 0 for 12; the others are words
-abbrev pub refusalPlace : ℕ → ℕ → Refusal → ℕ
-refusalPlace len indent SourceLong = 65536
-refusalPlace len indent (SourceIll p) = p .0
-refusalPlace len indent (TreeBad i) = i .0
-refusalPlace len indent (NoRoom n) = len
-refusalPlace len indent (QueueFull i) = i .0
-refusalPlace len indent (IndentOut n) = indent
-refusalPlace len indent (TreeDeep i) = i .0
-refusalPlace len indent (WrongKind i) = i .0
-refusalPlace len indent (NoRule i) = i .0
-refusalPlace len indent (Finished n) = len
-refusalPlace len indent (NoNode k) = k .0
-refusalPlace len indent (BadCall p) = 0
+-- ---- the place of a refusal
 
-abbrev pub placeWord : ℕ → ℕ → Answer → ℕ
-placeWord len indent Done = 0
-placeWord len indent (Refused r) = refusalPlace len indent r
+-- the place of 6: an indent over 64 was lent so, and is the lent word, which may be larger than the byte that the engine was handed
+abbrev pub indentPlace : ℕ → ℕ → ℕ
+indentPlace indent n = cond (ltb 64 n) indent n
 
--- ---- the place of a run's refusal
+-- the place as a word, beside the lent indent: a count is the refusal's own, cut to a word; the others are words
+abbrev pub refusalPlace : ℕ → Refusal → ℕ
+refusalPlace indent SourceLong = 65536
+refusalPlace indent (SourceIll p) = p .0
+refusalPlace indent (TreeBad i) = i .0
+refusalPlace indent (NoRoom n) = n % 0x100000000
+refusalPlace indent (QueueFull i) = i .0
+refusalPlace indent (IndentOut n) = indentPlace indent n
+refusalPlace indent (TreeDeep i) = i .0
+refusalPlace indent (WrongKind i) = i .0
+refusalPlace indent (NoRule i) = i .0
+refusalPlace indent (Finished n) = n % 0x100000000
+refusalPlace indent (NoNode k) = k .0
+refusalPlace indent (BadCall p) = p % 0x100000000
 
--- an indent over 64 was lent so, and is the word that was lent; within a run it stays from 0 to 64
-abbrev pub runIndent : ℕ → ℕ → ℕ
-runIndent indent n = cond (ltb 64 n) indent n
-
--- as above, but a count is the refusal's own, cut to a word
-abbrev pub runPlace : ℕ → Refusal → ℕ
-runPlace indent SourceLong = 65536
-runPlace indent (SourceIll p) = p .0
-runPlace indent (TreeBad i) = i .0
-runPlace indent (NoRoom n) = n % 0x100000000
-runPlace indent (QueueFull i) = i .0
-runPlace indent (IndentOut n) = runIndent indent n
-runPlace indent (TreeDeep i) = i .0
-runPlace indent (WrongKind i) = i .0
-runPlace indent (NoRule i) = i .0
-runPlace indent (Finished n) = n % 0x100000000
-runPlace indent (NoNode k) = k .0
-runPlace indent (BadCall p) = p % 0x100000000
-
-abbrev pub runPlaceWord : ℕ → Answer → ℕ
-runPlaceWord indent Done = 0
-runPlaceWord indent (Refused r) = runPlace indent r
-
--- ---- the sum
+abbrev pub placeWord : ℕ → Answer → ℕ
+placeWord indent Done = 0
+placeWord indent (Refused r) = refusalPlace indent r
 
 -- the number above the place, which fits the word below it
-pub record Packed (place : ℕ) (a : Answer) (n : ℕ) : Type 0 where
-  pub is : n ≡ seen a .number * 0x100000000 + place
-  pub fits : place < 0x100000000
+pub record Packed (indent : ℕ) (a : Answer) (n : ℕ) : Type 0 where
+  pub is : n ≡ seen a .number * 0x100000000 + placeWord indent a
+  pub fits : placeWord indent a < 0x100000000

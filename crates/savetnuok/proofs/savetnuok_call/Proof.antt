@@ -8,39 +8,36 @@ use Rattle.savetnuok.proofs.savetnuok_call.Tie as tie
 word-requires : tie.Need-word-requires
 word-requires c κs = omega (arith, shape-sized _ _ (c .before .before .shaped .ensures) (c .before .if1 .taken))
 
-word-requires-2 : tie.Need-word-requires-2
-word-requires-2 c κs = omega (arith, shape-sized _ _ (c .before .before .before .before .shaped .ensures) (c .before .before .before .if1 .taken))
-
 read-state-requires : tie.Need-read-state-requires
-read-state-requires c κs = shape-sized _ _ (c .before .before .before .before .before .before .before .shaped .ensures) (c .before .before .before .before .before .before .if1 .taken)
+read-state-requires c κs = shape-sized _ _ (c .before .before .before .before .before .shaped .ensures) (c .before .before .before .before .if1 .taken)
 
 returns : tie.Need-returns
 returns c =
     let engine = c .before .before .before .before .before in
-    let good = engine .before .before .before .before .before .before .before .before in
+    let good = engine .before .before .before .before .before .before in
     let start = good .before .before .before .before .before .before .before .before in
     call-refused (start .args .source .now) (start .args .tree .now) (start .args .state .now) (start .args .out .now) (start .args .bytes .now)
-    (good .before .shaped .ensures) (good .if1 .taken) (engine .before .read-state .ensures .0) (engine .«record» .ensures)
-    (c .before .before .refused .ensures) (c .before .if2 .taken) (engine .before .before .before .before .before .before .word .ensures) (engine .before .before .before .before .word2 .ensures) (c .packed .ensures)
+    (good .before .shaped .ensures) (good .if1 .taken) (engine .before .read-state .ensures .0) (engine .before .read-state .ensures .1) (engine .«record» .ensures)
+    (c .before .before .refused .ensures) (c .before .if2 .taken) (engine .before .before .before .before .word .ensures) (c .packed .ensures)
 
 write-state-requires : tie.Need-write-state-requires
 write-state-requires c κs =
     let engine = c .before .before .before .before .before .before in
-    let good = engine .before .before .before .before .before .before .before .before in
+    let good = engine .before .before .before .before .before .before in
     let start = good .before .before .before .before .before .before .before .before in (
       shape-sized _ _ (good .before .shaped .ensures) (good .if1 .taken),
       call-len (start .args .source .now) (start .args .tree .now) (start .args .state .now) (start .args .out .now) (start .args .bytes .now)
-          (good .before .shaped .ensures) (good .if1 .taken) (engine .before .read-state .ensures .0) (engine .«record» .ensures)
+          (good .before .shaped .ensures) (good .if1 .taken) (engine .before .read-state .ensures .0) (engine .before .read-state .ensures .1) (engine .«record» .ensures)
           (c .before .before .before .refused .ensures) (c .before .before .if2 .left),
     )
 
 returns-2 : tie.Need-returns-2
 returns-2 c =
     let engine = c .before .before .before .before .before .before .before .before .before in
-    let good = engine .before .before .before .before .before .before .before .before in
+    let good = engine .before .before .before .before .before .before in
     let start = good .before .before .before .before .before .before .before .before in
     call-done (start .args .source .now) (start .args .tree .now) (start .args .state .now) (start .args .out .now) (start .args .bytes .now)
-    (good .before .shaped .ensures) (good .if1 .taken) (engine .before .read-state .ensures .0) (engine .«record» .ensures)
+    (good .before .shaped .ensures) (good .if1 .taken) (engine .before .read-state .ensures .0) (engine .before .read-state .ensures .1) (engine .«record» .ensures)
     (c .before .before .before .before .before .before .refused .ensures) (c .before .before .before .before .before .if2 .left) (engine .«record» .kept .1 .1 .0) (c .before .before .write-state .ensures)
 
 returns-3 : tie.Need-returns-3
@@ -55,7 +52,6 @@ savetnuok-call-spec =
     (tie.spec
     (λ c κs. search needs)
     word-requires
-    word-requires-2
     read-state-requires
     (λ c κs. search needs)
     (λ c κs. search needs)

@@ -18,7 +18,7 @@ returns c =
     let start = good .before .before .before .before .before .before .before in
     run-refused (start .args .source .now) (start .args .tree .now) (start .args .state .now) (start .args .out .now) (start .args .node)
     (good .before .shaped .ensures) (good .if1 .taken) (engine .before .read-state .ensures .0) (engine .before .read-state .ensures .1) (engine .run .ensures)
-    (c .before .before .refused .ensures) (c .before .if2 .taken) (engine .before .before .before .before .word .ensures) (c .run-packed .ensures)
+    (c .before .before .refused .ensures) (c .before .if2 .taken) (engine .before .before .before .before .word .ensures) (c .packed .ensures)
 
 write-state-requires : tie.Need-write-state-requires
 write-state-requires c κs =
@@ -44,7 +44,7 @@ returns-3 : tie.Need-returns-3
 returns-3 c =
     let start = c .before .before .before .before .before .before .before .before .before .before in
     run-misshapen (start .args .source .now) (start .args .tree .now) (start .args .state .now) (start .args .out .now) (start .args .node)
-    (c .before .before .before .before .shaped .ensures) (c .before .before .before .if1 .left) (c .before .before .opening .ensures) (c .before .misshapen .ensures) (c .packed .ensures)
+    (c .before .before .before .before .shaped .ensures) (c .before .before .before .if1 .left) (c .before .before .opening .ensures) (c .before .misshapen .ensures) (c .packed2 .ensures)
 
 pub savetnuok-run-spec : {M : Type 1} → statement M
 savetnuok-run-spec =

@@ -1,13 +1,13 @@
--- `words::numbers::run_place` meets its contract. Assumes nothing.
+-- `words::numbers::place` meets its contract. Assumes nothing.
 use borrow.Author.Needs.{needs}
-use Rattle.words.proofs.numbers.run_place.Statement.{statement}
-use Rattle.words.proofs.numbers.run_place.Tie as tie
+use Rattle.words.proofs.numbers.place.Statement.{statement}
+use Rattle.words.proofs.numbers.place.Tie as tie
 
 returns-5 : tie.Need-returns-5
 returns-5 c = rw (c .before .before .before .before .before .a .given .1, c .before .before .r3 .given .1) (c .low-word .ensures)
 
 returns-7 : tie.Need-returns-7
-returns-7 c = rw (c .before .before .before .before .before .a .given .1, c .before .before .r5 .given .1) (c .run-indent .ensures)
+returns-7 c = rw (c .before .before .before .before .before .a .given .1, c .before .before .r5 .given .1) (c .indent-place .ensures)
 
 returns-11 : tie.Need-returns-11
 returns-11 c = rw (c .before .before .before .before .before .a .given .1, c .before .before .r9 .given .1) (c .low-word2 .ensures)
@@ -15,8 +15,8 @@ returns-11 c = rw (c .before .before .before .before .before .a .given .1, c .be
 returns-13 : tie.Need-returns-13
 returns-13 c = rw (c .before .before .before .before .before .a .given .1, c .before .before .r11 .given .1) (c .low-word3 .ensures)
 
-pub run-place-spec : {M : Type 1} → statement M
-run-place-spec =
+pub place-spec : {M : Type 1} → statement M
+place-spec =
     tie.close
     (tie.spec
     (λ c. search needs)
