@@ -32,7 +32,7 @@ pub extern "C" fn bench_utf8(s: &[u8]) -> u64
 pub extern "C" fn bench_count(s: &[u8], limit: u32) -> u64
     ensures { λ r. ⌜ r ≡ counted limit (now (s .entry)) ⌝ }
 {
-    text::chars::count(s, limit)
+    text::count::count(s, limit)
 }
 
 // Opening: the source and the tree are checked, and no state is made.

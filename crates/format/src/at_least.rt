@@ -1,5 +1,5 @@
 // The width question of the layout rules, `Source::is_at_least`.
-use text::chars::count;
+use text::count::count;
 use text::span::Span;
 use text::span::part;
 ghost use mathlib.Core.Path.{_≡_};

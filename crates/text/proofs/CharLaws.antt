@@ -1,11 +1,10 @@
--- Characters of a text: the next one, its boundaries, the count. Assumes nothing.
+-- Characters of a text: the next one, and its boundaries. Assumes nothing.
 use mathlib.Core.Path.{_≡_, refl, sym, ap, ap₂, _∙_}
 use mathlib.Core.Bool.{Bool, true, false, cond, not, _&&_, _||_, false≢true}
 use mathlib.Core.List.{List, [], _∷_}
-use Prim.Native.Nat.{ℕ, zero, suc, pred, _+_, _-_, _*_, _%_, _≤_, _<_, min}
-use native.Mathlib.Nat.{add-zero, min-eq-left, min-eq-right}
+use Prim.Native.Nat.{ℕ, zero, suc, pred, _+_, _*_, _%_, _≤_, _<_}
+use native.Mathlib.Nat.{add-zero}
 use native.Mathlib.Omega.{arith}
-use mir.Val.{boolByte}
 use lib.Dec.{leb, ltb, eqb, eqb·suc-zero, eqb·suc-suc}
 use lib.ListN.{length, drop, getD, drop-of-length-le}
 use lib.Seq.{drop-cons, drop-drop, getD-drop}
@@ -13,9 +12,8 @@ use borrow.Author.Tests.{le-leb, lt-leb, leb-true, leb-false, ltb-true, lt-ltb, 
 use Rattle.text.specs.declared.chars.Char.{Char}
 use Rattle.text.specs.declared.utf8.Formed.{Formed}
 use Rattle.text.specs.declared.utf8.Formed.the-variants.{Well, Ill}
-use Rattle.text.specs.White.{isWhite}
 use Rattle.text.specs.Utf8.{Range, Row, _⋯_, _then_, cont, inRange, table, allIn, lenBy, charLen, atLead, formedFrom}
-use Rattle.text.specs.Chars.{edgeFrom, edge, starts, code, charsFrom, chars, stepOf, charAt, dark, counted}
+use Rattle.text.specs.Chars.{edgeFrom, edge, starts, code, charsFrom, stepOf, charAt}
 use Rattle.text.proofs.Bools.{and-l, and-r}
 use Rattle.text.proofs.RowLaws.{char-fits}
 use Rattle.text.proofs.WalkLaws.{plain-char}
@@ -83,51 +81,6 @@ char-ill s i n e z = alone s i n (sym e) (omega arith)
 pub char-wide : (s : List ℕ) (i n c : ℕ) → n ≡ charLen (drop i s) → (n ≡ 0 → ⊥) → c ≡ code n (drop i s) → _≡_ {A = Char} (record { code = c; len = n }) (charAt (drop i s))
 char-wide s i zero c e ne q = absurd (ne refl)
 char-wide s i (suc n) c e ne q = rw (q, ← e)
-
--- ---- the count
-
--- n characters outside White_Space are counted up to place i, no more than the limit
-pub record Counting (t : List ℕ) (limit n i : ℕ) : Type 0 where
-  pub within : i ≤ length t
-  pub below : n ≤ limit
-  pub whole : n + dark (charsFrom 0 (drop i t)) ≡ dark (chars t)
-
-pub at-most-one : (w : Bool) → boolByte w ≤ 1
-at-most-one true = omega arith
-at-most-one false = omega arith
-
-module _ {t : List ℕ} {limit n i : ℕ} {k : Char} (c : Counting t limit n i) (h : i < length t) (e : k ≡ charAt (drop i t)) where
-  pub next-within : i + k .len ≤ length t
-  next-within = rw e (step-fits t i h)
-
-  pub next-moves : 0 < k .len
-  next-moves = rw e (step-pos (charLen (drop i t)))
-
-  -- one character more; w: it has White_Space
-  pass : {w : Bool} → w ≡ isWhite (k .code) → dark (charsFrom 0 (drop i t)) ≡ 1 - boolByte w + dark (charsFrom 0 (drop (i + k .len) t))
-  unfolding dark
-  pass f = rw (chars-next t i h, f, e) (go (isWhite (charAt (drop i t) .code)) (dark (charsFrom 0 (drop (i + charAt (drop i t) .len) t))))
-    where
-      go : (w : Bool) (m : ℕ) → cond w m (suc m) ≡ 1 - boolByte w + m
-      go true m = omega arith
-      go false m = omega arith
-
-  pub count-next : {w : Bool} → w ≡ isWhite (k .code) → (n + (1 - boolByte w) ≡ limit + 1 → ⊥) → Counting t limit (n + (1 - boolByte w)) (i + k .len)
-  count-next f ne = record { within = next-within; below = omega (arith, c .below); whole = omega (arith, c .whole, pass f) }
-
-  pub count-over : {w : Bool} → w ≡ isWhite (k .code) → n + (1 - boolByte w) ≡ limit + 1 → n + (1 - boolByte w) ≡ counted limit t
-  unfolding counted
-  count-over {w} f l = let q : n + (1 - boolByte w) ≡ suc limit = omega arith in q ∙ sym (min-eq-left (omega (arith, c .whole, pass f)))
-
-pub count-none : (t : List ℕ) (limit : ℕ) → Counting t limit 0 0
-count-none t limit = record { within = omega arith; below = omega arith; whole = omega arith }
-
-pub count-end : {t : List ℕ} {limit n i : ℕ} → Counting t limit n i → length t ≤ i → n ≡ counted limit t
-unfolding counted dark
-count-end {t} {limit} {n} {i} c g =
-    let z : dark (charsFrom 0 (drop i t)) ≡ 0 = rw (chars-none t i g) in
-    let m : n ≡ dark (chars t) = omega (arith, c .whole) in
-    m ∙ sym (min-eq-right (omega (arith, c .below)))
 
 -- ---- boundaries: a byte's own test agrees with decoding where the text is well-formed
 

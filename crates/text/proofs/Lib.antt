@@ -4,6 +4,7 @@ mod SpanLaws
 mod RowLaws
 mod WalkLaws
 mod CharLaws
+mod CountLaws
 mod LineLaws
 mod FormedLaws
 mod DeleteLaws

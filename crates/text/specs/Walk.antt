@@ -1,12 +1,14 @@
--- How far the check of a text has come, for the loops that make it up. Assumes nothing.
+-- How far a walk over a text has come, for the loops that check it and count its characters. Assumes nothing.
 use mathlib.Core.Path.{_≡_}
-use Prim.Native.Nat.{ℕ, _≤_, _<_}
+use Prim.Native.Nat.{ℕ, _+_, _≤_, _<_}
+use mathlib.Core.Bool.{true}
 use mathlib.Core.List.{List}
-use lib.ListN.{length, drop, getD}
+use lib.ListN.{length, take, drop, getD}
 use Rattle.text.specs.declared.utf8.Formed.the-variants.{Ill}
 use Rattle.text.specs.declared.utf8.Run.{Run}
 use Rattle.text.specs.declared.utf8.Run.the-variants as run
-use Rattle.text.specs.Utf8.{formedFrom}
+use Rattle.text.specs.Utf8.{formedFrom, allPlain}
+use Rattle.text.specs.Chars.{chars, dark}
 
 -- the byte at i is there, and lies from lo up to, not including, hi
 pub record ByteIn (s : List ℕ) (i lo hi : ℕ) : Type 0 where
@@ -29,3 +31,14 @@ pub record PlainTo (s : List ℕ) (i j : ℕ) : Type 0 where
 abbrev pub wideTo : List ℕ → ℕ → Run → Type 0
 wideTo s i (run.To j) = Past s i j × (i < length s → 0x80 ≤ getD s i 0 → i < j)
 wideTo s i (run.Ill p) = formedFrom 0 i (drop i s) ≡ Ill p
+
+-- the 32 bytes at i are there, and none is over 7F
+pub record PlainBlock (t : List ℕ) (i : ℕ) : Type 0 where
+  pub within : i + 32 ≤ length t
+  pub plain : allPlain (take 32 (drop i t)) ≡ true
+
+-- from place i to place j stand n characters outside White_Space
+pub record Tallied (t : List ℕ) (i j n : ℕ) : Type 0 where
+  pub few : i + n ≤ j
+  pub within : j ≤ length t
+  pub whole : n + dark (chars (drop j t)) ≡ dark (chars (drop i t))

@@ -1,18 +1,16 @@
-// Characters of a source: their boundaries, and how many are outside White_Space.
+// Characters of a source: their boundaries, and their code points.
 use crate::span::BytePos;
 use crate::span::Span;
 use crate::utf8::char_len;
-use crate::white::is_white;
 ghost use mathlib.Core.Path.{_≡_};
 ghost use Prim.Native.Nat.{_≤_, _<_, _+_};
 ghost use lib.ListN.{length, drop};
-ghost use Rattle.text.specs.Chars.{starts, inSource, code, charAt, chars, counted};
-ghost use Rattle.text.specs.Span.{textOf};
+ghost use Rattle.text.specs.Chars.{starts, inSource, code, charAt};
 
 // A character: its code point, and how many bytes it has.
-struct Char {
-    code: u32,
-    len: usize,
+pub struct Char {
+    pub code: u32,
+    pub len: usize,
 }
 
 // The place lies before a character or at the end.
@@ -68,7 +66,7 @@ fn code_at(s: &[u8], i: usize, n: usize) -> u32
 }
 
 // The character at i; a byte that begins no sequence is one by itself.
-fn char_at(s: &[u8], i: usize) -> Char
+pub fn char_at(s: &[u8], i: usize) -> Char
     requires { ⌜ i < length (now s) ⌝ }
     ensures { λ r. ⌜ r ≡ charAt (drop i (now (s .entry))) ⌝ }
 {
@@ -90,23 +88,4 @@ fn char_at(s: &[u8], i: usize) -> Char
         code: code_at(s, i, n),
         len: n,
     }
-}
-
-// How many characters of a text are outside White_Space, counted up to one above the limit and no further.
-pub fn count(t: &[u8], limit: u32) -> u64
-    ensures { λ r. ⌜ r ≡ counted limit (now (t .entry)) ⌝ }
-{
-    let above = limit as u64 + 1;
-    let mut n: u64 = 0;
-    let mut i: usize = 0;
-    while i < t.len() {
-        let c = char_at(t, i);
-        // a sum, not a branch on the answer
-        n += 1 - is_white(c.code) as u64;
-        if n == above {
-            return n;
-        }
-        i += c.len;
-    }
-    n
 }

@@ -140,7 +140,7 @@ pub fn char_len(s: &[u8], i: usize) -> usize
 }
 
 // No byte is over 7F: one test at the end and no exit before it, so that it becomes vector code.
-fn plain(s: &[u8]) -> bool
+pub fn plain(s: &[u8]) -> bool
     ensures { λ r. ⌜ r ≡ allPlain (now (s .entry)) ⌝ }
 {
     let mut all: u8 = 0;
