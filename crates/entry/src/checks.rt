@@ -60,7 +60,7 @@ pub fn lent(src: &[u8], queue: &[u32; 1024], cap: usize, run: Run) -> Run
         return run.refused(Refusal::QueueFull(RecordNo(8192)));
     }
     if 64 < run.indent {
-        return run.refused(Refusal::IndentOut(run.indent));
+        return run.refused(Refusal::IndentOut(run.indent as u32));
     }
     run
 }

@@ -12,7 +12,7 @@ pub enum Refusal {
     TreeBad(RecordNo),
     NoRoom(usize),
     QueueFull(RecordNo),
-    IndentOut(u8),
+    IndentOut(u32),
     TreeDeep(RecordNo),
     WrongKind(RecordNo),
     NoRule(RecordNo),

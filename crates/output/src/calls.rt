@@ -188,12 +188,12 @@ pub fn indent(
     let b = d as u32;
     if b < 0x80 {
         if 64 < i + b {
-            return go.refused(Refusal::IndentOut(go.indent));
+            return go.refused(Refusal::IndentOut(i));
         }
         return go.indented((i + b) as u8);
     }
     if i < 0x100 - b {
-        return go.refused(Refusal::IndentOut(go.indent));
+        return go.refused(Refusal::IndentOut(i));
     }
     go.indented((i - (0x100 - b)) as u8)
 }

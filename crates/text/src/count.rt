@@ -45,15 +45,12 @@ fn dark_bytes(s: &[u8]) -> u64
     n
 }
 
-// The 32 bytes at i are there and plain. The first is asked by itself, as a character of several bytes mostly stands before another.
+// The 32 bytes at i are there and plain.
 fn plain_block(t: &[u8], i: usize) -> bool
     requires { ⌜ i ≤ length (now t) ⌝ }
     ensures { λ r. ⌜ (r ≡ true → PlainBlock (now (t .entry)) i) ⌝ }
 {
     if t.len() - i < 32 {
-        return false;
-    }
-    if 0x80 <= t[i] {
         return false;
     }
     plain(&t[i..i + 32])
@@ -99,6 +96,18 @@ fn over_plain(t: &[u8], from: usize, left: u64) -> Tally
     Tally { dark: n, end: i }
 }
 
+// Over the plain bytes at `from`, behind a character of so many bytes: one of several bytes mostly stands before another, and is asked
+// for none.
+fn over_next(t: &[u8], from: usize, len: usize, left: u64) -> Tally
+    requires { ⌜ from ≤ length (now t) ⌝ }
+    ensures { λ r. ⌜ Tallied (now (t .entry)) from (r .end) (r .dark) ⌝ }
+{
+    if len == 1 {
+        return over_plain(t, from, left);
+    }
+    Tally { dark: 0, end: from }
+}
+
 // How many characters of a text are outside White_Space, up to one above the limit; little is read once that is known.
 pub fn count(t: &[u8], limit: u32) -> u64
     ensures { λ r. ⌜ r ≡ counted limit (now (t .entry)) ⌝ }
@@ -110,7 +119,7 @@ pub fn count(t: &[u8], limit: u32) -> u64
         let c = char_at(t, i);
         // a sum, not a branch on the answer
         n += 1 - is_white(c.code) as u64;
-        let run = over_plain(t, i + c.len, above - n);
+        let run = over_next(t, i + c.len, c.len, above - n);
         n += run.dark;
         if above <= n {
             return above;

@@ -14,10 +14,10 @@ fn low_word(n: usize) -> u32
 }
 
 // The place of 6: an indent over 64 was lent so, and may be larger than the byte that the engine was handed.
-fn indent_place(n: u8, indent: u32) -> u32
+fn indent_place(n: u32, indent: u32) -> u32
     ensures { λ r. ⌜ r ≡ indentPlace indent n ⌝ }
 {
-    if 64 < n { indent } else { n as u32 }
+    if 64 < n { indent } else { n }
 }
 
 // The place as a word. A run's calls go on from states that were never lent, so each count is the refusal's own.

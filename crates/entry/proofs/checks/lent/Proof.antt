@@ -39,7 +39,7 @@ returns-4 c =
 
 returns-5 : tie.Need-returns-5
 returns-5 c =
-    let else4 = c .before .before .before in
+    let else4 = c .before .before .before .before in
     let else3 = else4 .before .before in
     let else2 = else3 .before .before in
     let else1 = else2 .before .before in
@@ -47,7 +47,7 @@ returns-5 c =
     c .refused4 .ensures
     ∙ lent-deep (start .args .src .now) (start .args .queue .now) (start .args .cap) (start .args .run)
     (goes (else1 .before .stopped .ensures) (else1 .if1 .left)) (else2 .if2 .left) (else3 .if3 .left) (else4 .before .any-outside .ensures)
-    (else4 .if4 .left) (c .before .if5 .taken)
+    (else4 .if4 .left) (c .before .before .if5 .taken)
 
 returns-6 : tie.Need-returns-6
 returns-6 c =
@@ -73,6 +73,7 @@ lent-spec =
     (λ c κs. search needs)
     (λ c κs. search needs)
     returns-4
+    (λ c. search needs)
     (λ c κs. search needs)
     returns-5
     returns-6)

@@ -15,13 +15,13 @@ Inv-loop t limit above n₀ i₀ n i = Tallied t 0 i n × (n ≤ limit)
 abbrev μ-loop : tie.MeasureT-loop
 μ-loop t limit above n₀ i₀ n i = length t - i
 
-add-over-plain : tie.Need-add-over-plain Inv-loop μ-loop
-add-over-plain c =
+add-over-next : tie.Need-add-over-next Inv-loop μ-loop
+add-over-next c =
     let at-char = c .before .before in
     omega (arith, tally-char (at-char .before .loop-test .taken) (at-char .char-at .ensures) (c .before .is-white .ensures) .within)
 
-over-plain-requires : tie.Need-over-plain-requires Inv-loop μ-loop
-over-plain-requires c κs =
+over-next-requires : tie.Need-over-next-requires Inv-loop μ-loop
+over-next-requires c κs =
     let at-char = c .before .before in
     tally-char (at-char .before .loop-test .taken) (at-char .char-at .ensures) (c .before .is-white .ensures) .within
 
@@ -30,27 +30,27 @@ add-n-2 c =
     let at-run = c .before in
     let at-char = at-run .before .before .before in
     let one = tally-char (at-char .before .loop-test .taken) (at-char .char-at .ensures) (at-run .before .before .is-white .ensures) in
-    omega (arith, tally-join (tally-join (at-char .before .before .loop .inv .0) one) (at-run .over-plain .ensures))
+    omega (arith, tally-join (tally-join (at-char .before .before .loop .inv .0) one) (at-run .over-next .ensures))
 
 returns : tie.Need-returns Inv-loop μ-loop
 returns c =
     let at-run = c .before .before in
     let at-char = at-run .before .before .before in
     let one = tally-char (at-char .before .loop-test .taken) (at-char .char-at .ensures) (at-run .before .before .is-white .ensures) in
-    count-over _ (tally-join (tally-join (at-char .before .before .loop .inv .0) one) (at-run .over-plain .ensures)) (c .if1 .taken)
+    count-over _ (tally-join (tally-join (at-char .before .before .loop .inv .0) one) (at-run .over-next .ensures)) (c .if1 .taken)
 
 loop-less : tie.Need-loop-less Inv-loop μ-loop
 loop-less c =
     let at-run = c .before .before in
     let at-char = at-run .before .before .before in
-    omega (arith, char-moves _ (at-char .before .before .loop .i) (at-char .char-at .ensures), at-run .over-plain .ensures, at-char .before .loop-test .taken)
+    omega (arith, char-moves _ (at-char .before .before .loop .i) (at-char .char-at .ensures), at-run .over-next .ensures, at-char .before .loop-test .taken)
 
 loop-again : tie.Need-loop-again Inv-loop μ-loop
 loop-again c =
     let at-run = c .before .before in
     let at-char = at-run .before .before .before in
     let one = tally-char (at-char .before .loop-test .taken) (at-char .char-at .ensures) (at-run .before .before .is-white .ensures) in
-    (tally-join (tally-join (at-char .before .before .loop .inv .0) one) (at-run .over-plain .ensures), omega (arith, c .if1 .left))
+    (tally-join (tally-join (at-char .before .before .loop .inv .0) one) (at-run .over-next .ensures), omega (arith, c .if1 .left))
 
 pub count-spec : {M : Type 1} → statement M
 count-spec =
@@ -65,9 +65,9 @@ count-spec =
     (λ c. search needs)
     (λ c. at-most-one (c .is-white .result))
     (λ c. omega (arith, c .before .before .before .loop .inv .1))
-    add-over-plain
+    add-over-next
     (λ c. omega (arith, c .before .before .before .before .loop .inv .1))
-    over-plain-requires
+    over-next-requires
     add-n-2
     returns
     loop-less

@@ -7,9 +7,9 @@ use native.Mathlib.Omega.{arith}
 use Rattle.text.proofs.count.plain_block.Statement.{statement}
 use Rattle.text.proofs.count.plain_block.Tie as tie
 
-returns-3 : tie.Need-returns-3
-returns-3 c e =
-    let i = c .before .before .before .before .before .before .args .i in
+returns-2 : tie.Need-returns-2
+returns-2 c e =
+    let i = c .before .before .before .before .args .i in
     let z : i + 32 - i ≡ 32 = omega arith in
     record { within = omega arith; plain = rw z at (sym (c .plain .ensures) ∙ e) }
 
@@ -20,10 +20,8 @@ plain-block-spec =
     (λ c. search needs)
     (λ c e. absurd (false≢true e))
     (λ c. search needs)
-    (λ c e. absurd (false≢true e))
-    (λ c. search needs)
     (λ c. search needs)
     (λ c. search needs)
     (λ c. search needs)
     (λ c κs. search needs)
-    returns-3)
+    returns-2)
