@@ -10,16 +10,26 @@ returns : tie.Need-returns
 returns c = char-plain (c .before .before .before .args .s .now) (c .before .before .before .args .i) (omega arith) (c .if1 .taken)
 
 cast-t9 : tie.Need-cast-t9
-cast-t9 c = omega (arith, c .before .before .before .before .shared-slice-known .given (c .before .before .before .before .before .args .i))
+cast-t9 c =
+    let at-shared-slice-known = c .before .before .before .before in
+    let start = at-shared-slice-known .before in
+    omega (arith, at-shared-slice-known .shared-slice-known .given (start .args .i))
 
 returns-2 : tie.Need-returns-2
-returns-2 c = char-ill (c .before .before .before .before .before .args .s .now) (c .before .before .before .before .before .args .i) (c .before .char-len .result) (c .before .char-len .ensures) (c .if2 .taken)
+returns-2 c =
+    let start = c .before .before .before .before .before in
+    char-ill (start .args .s .now) (start .args .i) (c .before .char-len .result) (c .before .char-len .ensures) (c .if2 .taken)
 
 code-at-requires : tie.Need-code-at-requires
-code-at-requires c κs = (omega arith, rw (c .before .char-len .ensures) (char-fits (c .before .before .before .before .before .args .s .now) (c .before .before .before .before .before .args .i) (omega arith)))
+code-at-requires c κs =
+    let start = c .before .before .before .before .before in
+    (omega arith, rw (c .before .char-len .ensures) (char-fits (start .args .s .now) (start .args .i) (omega arith)))
 
 returns-3 : tie.Need-returns-3
-returns-3 c = char-wide (c .before .before .before .before .before .before .args .s .now) (c .before .before .before .before .before .before .args .i) (c .before .before .char-len .result) (c .code-at .result) (c .before .before .char-len .ensures) (c .before .if2 .left) (c .code-at .ensures)
+returns-3 c =
+    let start = c .before .before .before .before .before .before in
+    char-wide (start .args .s .now) (start .args .i) (c .before .before .char-len .result) (c .code-at .result) (c .before .before .char-len .ensures)
+    (c .before .if2 .left) (c .code-at .ensures)
 
 pub char-at-spec : {M : Type 1} → statement M
 char-at-spec =

@@ -18,19 +18,34 @@ cast-b : tie.Need-cast-b
 cast-b c = omega (arith, c .shared-slice-known2 .given (c .before .before .before .args .i + 1))
 
 returns-2 : tie.Need-returns-2
-returns-2 c = sym (rw (le-ltb _ _ (c .before .before .if1 .left), lt-ltb _ _ (c .if2 .taken)) at (code-at (c .before .before .before .before .args .n) (c .before .before .before .before .args .i) (c .before .before .before .before .args .s .now)))
+returns-2 c =
+    let start = c .before .before .before .before in
+    sym (rw (le-ltb _ _ (c .before .before .if1 .left), lt-ltb _ _ (c .if2 .taken)) at (code-at (start .args .n) (start .args .i) (start .args .s .now)))
 
 cast-c : tie.Need-cast-c
-cast-c c = omega (arith, c .shared-slice-known3 .given (c .before .before .before .before .before .args .i + 2))
+cast-c c =
+    let start = c .before .before .before .before .before in
+    omega (arith, c .shared-slice-known3 .given (start .args .i + 2))
 
 returns-3 : tie.Need-returns-3
-returns-3 c = sym (rw (le-ltb _ _ (c .before .before .before .before .if1 .left), le-ltb _ _ (c .before .before .if2 .left), lt-ltb _ _ (c .if3 .taken)) at (code-at (c .before .before .before .before .before .before .args .n) (c .before .before .before .before .before .before .args .i) (c .before .before .before .before .before .before .args .s .now)))
+returns-3 c =
+    let else1 = c .before .before .before .before in
+    let start = else1 .before .before in
+    sym (rw (le-ltb _ _ (else1 .if1 .left), le-ltb _ _ (c .before .before .if2 .left), lt-ltb _ _ (c .if3 .taken)) at
+    (code-at (start .args .n) (start .args .i) (start .args .s .now)))
 
 cast-d : tie.Need-cast-d
-cast-d c = omega (arith, c .shared-slice-known4 .given (c .before .before .before .before .before .before .before .args .i + 3))
+cast-d c =
+    let start = c .before .before .before .before .before .before .before in
+    omega (arith, c .shared-slice-known4 .given (start .args .i + 3))
 
 returns-4 : tie.Need-returns-4
-returns-4 c = sym (rw (le-ltb _ _ (c .before .before .before .before .before .if1 .left), le-ltb _ _ (c .before .before .before .if2 .left), le-ltb _ _ (c .before .if3 .left)) at (code-at (c .before .before .before .before .before .before .before .args .n) (c .before .before .before .before .before .before .before .args .i) (c .before .before .before .before .before .before .before .args .s .now)))
+returns-4 c =
+    let else2 = c .before .before .before in
+    let else1 = else2 .before .before in
+    let start = else1 .before .before in
+    sym (rw (le-ltb _ _ (else1 .if1 .left), le-ltb _ _ (else2 .if2 .left), le-ltb _ _ (c .before .if3 .left)) at
+    (code-at (start .args .n) (start .args .i) (start .args .s .now)))
 
 pub code-at-spec : {M : Type 1} → statement M
 code-at-spec =

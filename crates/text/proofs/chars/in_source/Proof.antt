@@ -8,11 +8,17 @@ use Rattle.text.proofs.chars.in_source.Tie as tie
 
 returns : tie.Need-returns
 unfolding inSource
-returns c = c .on-boundary2 .ensures ∙ sym (rw (le-leb _ _ (c .before .before .before .before .if1 .taken), le-leb _ _ (c .before .before .before .if2 .taken), sym (c .before .before .on-boundary .ensures) ∙ c .before .if3 .taken))
+returns c =
+    let then2 = c .before .before .before in
+    let then1 = then2 .before in
+    c .on-boundary2 .ensures
+    ∙ sym (rw (le-leb _ _ (then1 .if1 .taken), le-leb _ _ (then2 .if2 .taken), sym (c .before .before .on-boundary .ensures) ∙ c .before .if3 .taken))
 
 returns-2 : tie.Need-returns-2
 unfolding inSource
-returns-2 c = sym (rw (le-leb _ _ (c .before .before .before .if1 .taken), le-leb _ _ (c .before .before .if2 .taken), sym (c .before .on-boundary .ensures) ∙ c .if3 .left))
+returns-2 c =
+    let then1 = c .before .before .before in
+    sym (rw (le-leb _ _ (then1 .if1 .taken), le-leb _ _ (c .before .before .if2 .taken), sym (c .before .on-boundary .ensures) ∙ c .if3 .left))
 
 returns-3 : tie.Need-returns-3
 unfolding inSource

@@ -12,7 +12,10 @@ returns-2 : tie.Need-returns-2
 returns-2 c = sym (starts-in _ _ (omega arith) ∙ rw (lt-leb _ _ (c .if2 .taken)))
 
 returns-3 : tie.Need-returns-3
-returns-3 c = high (getD (c .before .before .before .before .args .s .now) (c .before .before .before .before .args .p .0) 0) ∙ sym (starts-in (c .before .before .before .before .args .p .0) (c .before .before .before .before .args .s .now) (omega arith) ∙ rw (le-leb _ _ (c .if2 .left)))
+returns-3 c =
+    let start = c .before .before .before .before in
+    high (getD (start .args .s .now) (start .args .p .0) 0)
+    ∙ sym (starts-in (start .args .p .0) (start .args .s .now) (omega arith) ∙ rw (le-leb _ _ (c .if2 .left)))
 
 pub on-boundary-spec : {M : Type 1} → statement M
 on-boundary-spec =

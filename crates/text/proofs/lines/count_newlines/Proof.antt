@@ -18,10 +18,20 @@ abbrev μ-loop : tie.MeasureT-loop
 μ-loop t n₀ i₀ n i = length t - i
 
 add-n : tie.Need-add-n Inv-loop μ-loop
-add-n c = omega (arith, c .newline .ensures, one-at-most (eqb (getD (c .before .before .before .before .before .args .t .now) (c .before .before .before .loop .i) 0) 0x0A))
+add-n c =
+    let at-loop = c .before .before .before in
+    let start = at-loop .before .before in
+    omega (arith, c .newline .ensures, one-at-most (eqb (getD (start .args .t .now) (at-loop .loop .i) 0) 0x0A))
 
 loop-again : tie.Need-loop-again Inv-loop μ-loop
-loop-again c = (omega arith, omega (arith, c .newline .ensures, one-at-most (eqb (getD (c .before .before .before .before .before .args .t .now) (c .before .before .before .loop .i) 0) 0x0A)), newlines-turn _ (c .before .before .before .loop .n) (c .before .before .before .loop .i) (c .newline .result) _ (c .before .before .loop-test .taken) (c .newline .ensures) (c .before .before .before .loop .inv .2))
+loop-again c =
+    let at-loop = c .before .before .before in
+    let start = at-loop .before .before in (
+      omega arith,
+      omega (arith, c .newline .ensures, one-at-most (eqb (getD (start .args .t .now) (at-loop .loop .i) 0) 0x0A)),
+      newlines-turn _
+          (at-loop .loop .n) (at-loop .loop .i) (c .newline .result) _ (c .before .before .loop-test .taken) (c .newline .ensures) (at-loop .loop .inv .2),
+    )
 
 returns : tie.Need-returns Inv-loop μ-loop
 returns c = omega (arith, newlines-end (c .before .before .before .args .t .now) (c .before .loop .i) (c .loop-test .left))

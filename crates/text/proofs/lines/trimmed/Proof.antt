@@ -18,10 +18,20 @@ abbrev μ-loop : tie.MeasureT-loop
 μ-loop t n₀ n = n
 
 loop-again : tie.Need-loop-again Inv-loop μ-loop
-loop-again c = (omega arith, sym (trim-turn _ (c .before .before .before .before .loop .n) (c .before .before .before .loop-test .taken) (c .before .before .before .before .loop .inv .0) (sym (c .before .is-blank .ensures) ∙ c .if1 .taken)) ∙ c .before .before .before .before .loop .inv .1)
+loop-again c =
+    let in-loop = c .before .before .before in
+    let at-loop = in-loop .before in (
+      omega arith,
+      sym (trim-turn _ (at-loop .loop .n) (in-loop .loop-test .taken) (at-loop .loop .inv .0) (sym (c .before .is-blank .ensures) ∙ c .if1 .taken))
+          ∙ at-loop .loop .inv .1,
+    )
 
 returns : tie.Need-returns Inv-loop μ-loop
-returns c = sym (trim-stop _ (c .before .before .before .before .before .loop .n) (c .before .before .before .before .loop-test .taken) (c .before .before .before .before .before .loop .inv .0) (sym (c .before .before .is-blank .ensures) ∙ c .before .if1 .left)) ∙ c .before .before .before .before .before .loop .inv .1
+returns c =
+    let in-loop = c .before .before .before .before in
+    let at-loop = in-loop .before in
+    sym (trim-stop _ (at-loop .loop .n) (in-loop .loop-test .taken) (at-loop .loop .inv .0) (sym (c .before .before .is-blank .ensures) ∙ c .before .if1 .left))
+    ∙ at-loop .loop .inv .1
 
 returns-2 : tie.Need-returns-2 Inv-loop μ-loop
 returns-2 c = sym (trim-none _ (c .before .before .loop .n) (c .before .loop-test .left)) ∙ c .before .before .loop .inv .1

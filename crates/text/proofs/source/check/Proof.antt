@@ -13,7 +13,10 @@ unfolding checked
 returns c = sym (rw (lt-ltb _ _ (c .if1 .taken)))
 
 cast-t7 : tie.Need-cast-t7
-cast-t7 c = omega (arith, (ill-first (c .before .before .before .before .before .before .args .s .now) (c .before .f .given .0 .0) (sym (c .before .before .before .check .ensures) ∙ c .before .f .given .1)) .inside)
+cast-t7 c =
+    let at-check = c .before .before .before in
+    let start = at-check .before .before .before in
+    omega (arith, (ill-first (start .args .s .now) (c .before .f .given .0 .0) (sym (at-check .check .ensures) ∙ c .before .f .given .1)) .inside)
 
 returns-2 : tie.Need-returns-2
 unfolding checked
@@ -21,7 +24,10 @@ returns-2 c = sym (rw (le-ltb _ _ (c .before .before .before .if1 .left)) (ap of
 
 returns-3 : tie.Need-returns-3
 unfolding checked
-returns-3 c = sym (rw (le-ltb _ _ (c .before .before .before .before .if1 .left)) (ap ofFormed (sym (c .before .before .before .check .ensures) ∙ c .before .f .given .1)))
+returns-3 c =
+    let at-check = c .before .before .before in
+    let else1 = at-check .before in
+    sym (rw (le-ltb _ _ (else1 .if1 .left)) (ap ofFormed (sym (at-check .check .ensures) ∙ c .before .f .given .1)))
 
 pub check-spec : {M : Type 1} → statement M
 check-spec =

@@ -6,13 +6,19 @@ use Rattle.text.proofs.span.part.Statement.{statement}
 use Rattle.text.proofs.span.part.Tie as tie
 
 returns : tie.Need-returns
-returns c = between-none (c .before .before .before .before .args .s .now) (c .before .before .before .before .args .span .start .0) (c .before .before .before .before .args .span .end .0) (omega arith)
+returns c =
+    let start' = c .before .before .before .before in
+    between-none (start' .args .s .now) (start' .args .span .start .0) (start' .args .span .end .0) (omega arith)
 
 returns-2 : tie.Need-returns-2
-returns-2 c = between-past (c .before .before .before .before .before .args .s .now) (c .before .before .before .before .before .args .span .start .0) (c .before .before .before .before .before .args .span .end .0) (omega arith)
+returns-2 c =
+    let start' = c .before .before .before .before .before in
+    between-past (start' .args .s .now) (start' .args .span .start .0) (start' .args .span .end .0) (omega arith)
 
 returns-3 : tie.Need-returns-3
-returns-3 c = between-rest (c .before .before .before .before .before .before .args .s .now) (c .before .before .before .before .before .before .args .span .start .0) (c .before .before .before .before .before .before .args .span .end .0) (omega arith)
+returns-3 c =
+    let start' = c .before .before .before .before .before .before in
+    between-rest (start' .args .s .now) (start' .args .span .start .0) (start' .args .span .end .0) (omega arith)
 
 pub part-spec : {M : Type 1} → statement M
 part-spec =

@@ -8,10 +8,15 @@ use Rattle.text.proofs.utf8.char_len.Statement.{statement}
 use Rattle.text.proofs.utf8.char_len.Tie as tie
 
 returns-2 : tie.Need-returns-2
-returns-2 c = sym (char-one {s = c .before .before .before .before .args .s .now} {i = c .before .before .before .before .args .i} (search needs))
+returns-2 c =
+    let start = c .before .before .before .before in
+    sym (char-one {s = start .args .s .now} {i = start .args .i} (search needs))
 
 four-requires : tie.Need-four-requires
-four-requires c κs = record { here = omega arith; low = c .if4 .left; high = omega (arith, c .before .before .before .shared-slice-known2 .given (c .before .before .before .before .before .before .args .i)) }
+four-requires c κs =
+    let at-shared-slice-known2 = c .before .before .before in
+    let start = at-shared-slice-known2 .before .before .before in
+    record { here = omega arith; low = c .if4 .left; high = omega (arith, at-shared-slice-known2 .shared-slice-known2 .given (start .args .i)) }
 
 pub char-len-spec : {M : Type 1} → statement M
 char-len-spec =

@@ -16,13 +16,31 @@ abbrev μ-loop : tie.MeasureT-loop
 μ-loop s i₀ i = length s - i
 
 loop-less : tie.Need-loop-less Inv-loop μ-loop
-loop-less c = let r = subst (wideTo (c .before .before .before .before .before .before .before .before .args .s .now) (c .before .before .before .before .past-plain .result)) (c .before .w .given .1) (c .before .before .before .past-wide .ensures) in falls (c .before .before .before .before .before .loop-test .taken) (c .before .before .before .before .past-plain .ensures) (r .0) (r .1)
+loop-less c =
+    let at-past-wide = c .before .before .before in
+    let at-past-plain = at-past-wide .before in
+    let in-loop = at-past-plain .before in
+    let start = in-loop .before .before .before in
+    let r = subst (wideTo (start .args .s .now) (at-past-plain .past-plain .result)) (c .before .w .given .1) (at-past-wide .past-wide .ensures) in
+    falls (in-loop .loop-test .taken) (at-past-plain .past-plain .ensures) (r .0) (r .1)
 
 loop-again : tie.Need-loop-again Inv-loop μ-loop
-loop-again c = let r = subst (wideTo (c .before .before .before .before .before .before .before .before .args .s .now) (c .before .before .before .before .past-plain .result)) (c .before .w .given .1) (c .before .before .before .past-wide .ensures) in past-join (past-join (c .before .before .before .before .before .before .loop .inv) (c .before .before .before .before .past-plain .ensures .past)) (r .0)
+loop-again c =
+    let at-past-wide = c .before .before .before in
+    let at-past-plain = at-past-wide .before in
+    let at-loop = at-past-plain .before .before in
+    let start = at-loop .before .before in
+    let r = subst (wideTo (start .args .s .now) (at-past-plain .past-plain .result)) (c .before .w .given .1) (at-past-wide .past-wide .ensures) in
+    past-join (past-join (at-loop .loop .inv) (at-past-plain .past-plain .ensures .past)) (r .0)
 
 returns : tie.Need-returns Inv-loop μ-loop
-returns c = sym (sym (c .before .before .before .before .before .before .loop .inv .same) ∙ sym (c .before .before .before .before .past-plain .ensures .past .same) ∙ subst (wideTo (c .before .before .before .before .before .before .before .before .args .s .now) (c .before .before .before .before .past-plain .result)) (c .before .w2 .given .1) (c .before .before .before .past-wide .ensures))
+returns c =
+    let at-past-wide = c .before .before .before in
+    let at-past-plain = at-past-wide .before in
+    let at-loop = at-past-plain .before .before in
+    let start = at-loop .before .before in
+    sym (sym (at-loop .loop .inv .same) ∙ sym (at-past-plain .past-plain .ensures .past .same)
+    ∙ subst (wideTo (start .args .s .now) (at-past-plain .past-plain .result)) (c .before .w2 .given .1) (at-past-wide .past-wide .ensures))
 
 returns-2 : tie.Need-returns-2 Inv-loop μ-loop
 returns-2 c = sym (sym (c .before .loop .inv .same) ∙ formed-none _ _ (c .loop-test .left))

@@ -10,7 +10,11 @@ returns : tie.Need-returns
 returns c = sym (rw (lt-ltb _ _ (c .if1 .taken)) at (char-four (c .before .before .before .pre)))
 
 returns-2 : tie.Need-returns-2
-returns-2 c = c .tail4 .ensures ∙ rw (c .before .before .lowest .ensures, c .before .highest .ensures) (sym (rw (le-ltb _ _ (c .before .before .before .if1 .left)) at (char-four (c .before .before .before .before .before .before .pre))))
+returns-2 c =
+    let else1 = c .before .before .before in
+    let start = else1 .before .before .before in
+    c .tail4 .ensures
+    ∙ rw (c .before .before .lowest .ensures, c .before .highest .ensures) (sym (rw (le-ltb _ _ (else1 .if1 .left)) at (char-four (start .pre))))
 
 pub four-spec : {M : Type 1} → statement M
 four-spec =

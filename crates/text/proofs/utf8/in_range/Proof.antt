@@ -10,10 +10,14 @@ use Rattle.text.proofs.utf8.in_range.Statement.{statement}
 use Rattle.text.proofs.utf8.in_range.Tie as tie
 
 returns : tie.Need-returns
-returns c = sym (all-one (c .before .before .before .args .lo ⋯ c .before .before .before .args .hi) (c .before .before .before .args .s .now) (c .before .before .before .args .i) (omega arith) ∙ rw (le-leb _ _ (c .if2 .taken)))
+returns c =
+    let start = c .before .before .before in
+    sym (all-one (start .args .lo ⋯ start .args .hi) (start .args .s .now) (start .args .i) (omega arith) ∙ rw (le-leb _ _ (c .if2 .taken)))
 
 returns-2 : tie.Need-returns-2
-returns-2 c = sym (all-one (c .before .before .before .args .lo ⋯ c .before .before .before .args .hi) (c .before .before .before .args .s .now) (c .before .before .before .args .i) (omega arith) ∙ rw (lt-leb _ _ (c .if2 .left)))
+returns-2 c =
+    let start = c .before .before .before in
+    sym (all-one (start .args .lo ⋯ start .args .hi) (start .args .s .now) (start .args .i) (omega arith) ∙ rw (lt-leb _ _ (c .if2 .left)))
 
 returns-3 : tie.Need-returns-3
 returns-3 c = sym (all-none (c .before .args .lo ⋯ c .before .args .hi) [] (c .before .args .s .now) (c .before .args .i) (c .if1 .left))

@@ -15,7 +15,10 @@ abbrev μ-loop : tie.MeasureT-loop
 μ-loop s from size i₀ i = length s - i
 
 loop-again : tie.Need-loop-again Inv-loop μ-loop
-loop-again c = past-block (c .before .before .before .before .before .before .args .size) (c .before .before .before .before .loop .inv) (omega (arith, c .before .before .before .before .loop .inv)) (sym (c .if1 .taken) ∙ c .before .plain .ensures)
+loop-again c =
+    let at-loop = c .before .before .before .before in
+    let start = at-loop .before .before in
+    past-block (start .args .size) (at-loop .loop .inv) (omega (arith, at-loop .loop .inv)) (sym (c .if1 .taken) ∙ c .before .plain .ensures)
 
 pub past-blocks-spec : {M : Type 1} → statement M
 past-blocks-spec =

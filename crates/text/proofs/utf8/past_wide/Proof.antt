@@ -17,19 +17,31 @@ abbrev μ-loop : tie.MeasureT-loop
 μ-loop s from i₀ i = length s - i
 
 returns : tie.Need-returns Inv-loop μ-loop
-returns c = (c .before .before .before .loop .inv, λ h l. moved (c .before .before .before .before .before .args .s .now) (c .before .before .before .before .before .args .from) (c .before .before .before .loop .i) (c .before .before .before .loop .inv .forth) (c .if1 .taken) l)
+returns c =
+    let at-loop = c .before .before .before in
+    let start = at-loop .before .before in
+    (at-loop .loop .inv, λ h l. moved (start .args .s .now) (start .args .from) (at-loop .loop .i) (at-loop .loop .inv .forth) (c .if1 .taken) l)
 
 returns-2 : tie.Need-returns-2 Inv-loop μ-loop
-returns-2 c = sym (c .before .before .before .before .before .loop .inv .same) ∙ ill-here (c .before .before .before .before .before .before .before .args .s .now) (c .before .before .before .before .before .loop .i) (omega arith) (sym (c .before .char-len .ensures) ∙ c .if2 .taken)
+returns-2 c =
+    let at-loop = c .before .before .before .before .before in
+    let start = at-loop .before .before in
+    sym (at-loop .loop .inv .same) ∙ ill-here (start .args .s .now) (at-loop .loop .i) (omega arith) (sym (c .before .char-len .ensures) ∙ c .if2 .taken)
 
 add-i : tie.Need-add-i Inv-loop μ-loop
-add-i c = omega (arith, (past-char (c .before .before .before .before .before .loop .inv) (omega arith) (c .before .char-len .ensures) (c .if2 .left)) .within)
+add-i c =
+    let at-loop = c .before .before .before .before .before in
+    omega (arith, (past-char (at-loop .loop .inv) (omega arith) (c .before .char-len .ensures) (c .if2 .left)) .within)
 
 loop-less : tie.Need-loop-less Inv-loop μ-loop
-loop-less c = omega (arith, (past-char (c .before .before .before .before .before .loop .inv) (omega arith) (c .before .char-len .ensures) (c .if2 .left)) .within)
+loop-less c =
+    let at-loop = c .before .before .before .before .before in
+    omega (arith, (past-char (at-loop .loop .inv) (omega arith) (c .before .char-len .ensures) (c .if2 .left)) .within)
 
 loop-again : tie.Need-loop-again Inv-loop μ-loop
-loop-again c = past-char (c .before .before .before .before .before .loop .inv) (omega arith) (c .before .char-len .ensures) (c .if2 .left)
+loop-again c =
+    let at-loop = c .before .before .before .before .before in
+    past-char (at-loop .loop .inv) (omega arith) (c .before .char-len .ensures) (c .if2 .left)
 
 returns-3 : tie.Need-returns-3 Inv-loop μ-loop
 returns-3 c = (c .before .loop .inv, λ h l. omega (arith, c .before .loop .inv))

@@ -19,7 +19,10 @@ abbrev μ-loop : tie.MeasureT-loop
 μ-loop s all₀ k₀ all k = length s - k
 
 loop-again : tie.Need-loop-again Inv-loop μ-loop
-loop-again c = (omega arith, plain-next (c .before .before .before .args .s .now) (c .before .before .loop .k) (c .before .before .loop .all) (omega arith) ∙ c .before .before .loop .inv .1)
+loop-again c =
+    let at-loop = c .before .before in
+    let start = at-loop .before in
+    (omega arith, plain-next (start .args .s .now) (at-loop .loop .k) (at-loop .loop .all) (omega arith) ∙ at-loop .loop .inv .1)
 
 returns : tie.Need-returns Inv-loop μ-loop
 returns c = plain-end (c .before .before .args .s .now) (c .before .loop .k) (c .before .loop .all) (omega arith) ∙ c .before .loop .inv .1

@@ -8,13 +8,26 @@ use Rattle.text.proofs.utf8.tail3.Statement.{statement}
 use Rattle.text.proofs.utf8.tail3.Tie as tie
 
 returns : tie.Need-returns
-returns c = ap (λ (t : Bool). cond t 3 0) (all-two (c .before .before .before .before .before .args .lo ⋯ c .before .before .before .before .before .args .hi) cont (c .before .before .before .before .before .args .s .now) (c .before .before .before .before .before .args .i) true true (sym (c .before .before .if1 .taken) ∙ c .before .before .before .in-range .ensures) (sym (c .if2 .taken) ∙ c .before .in-range2 .ensures))
+returns c =
+    let then1 = c .before .before in
+    let start = then1 .before .before .before in
+    ap (λ (t : Bool). cond t 3 0)
+    (all-two (start .args .lo ⋯ start .args .hi) cont (start .args .s .now) (start .args .i) true true
+    (sym (then1 .if1 .taken) ∙ then1 .before .in-range .ensures) (sym (c .if2 .taken) ∙ c .before .in-range2 .ensures))
 
 returns-2 : tie.Need-returns-2
-returns-2 c = ap (λ (t : Bool). cond t 3 0) (all-two (c .before .before .before .before .before .args .lo ⋯ c .before .before .before .before .before .args .hi) cont (c .before .before .before .before .before .args .s .now) (c .before .before .before .before .before .args .i) true false (sym (c .before .before .if1 .taken) ∙ c .before .before .before .in-range .ensures) (sym (c .if2 .left) ∙ c .before .in-range2 .ensures))
+returns-2 c =
+    let then1 = c .before .before in
+    let start = then1 .before .before .before in
+    ap (λ (t : Bool). cond t 3 0)
+    (all-two (start .args .lo ⋯ start .args .hi) cont (start .args .s .now) (start .args .i) true false
+    (sym (then1 .if1 .taken) ∙ then1 .before .in-range .ensures) (sym (c .if2 .left) ∙ c .before .in-range2 .ensures))
 
 returns-3 : tie.Need-returns-3
-returns-3 c = ap (λ (t : Bool). cond t 3 0) (all-two (c .before .before .before .args .lo ⋯ c .before .before .before .args .hi) cont (c .before .before .before .args .s .now) (c .before .before .before .args .i) false _ (sym (c .if1 .left) ∙ c .before .in-range .ensures) refl)
+returns-3 c =
+    let start = c .before .before .before in
+    ap (λ (t : Bool). cond t 3 0)
+    (all-two (start .args .lo ⋯ start .args .hi) cont (start .args .s .now) (start .args .i) false _ (sym (c .if1 .left) ∙ c .before .in-range .ensures) refl)
 
 pub tail3-spec : {M : Type 1} → statement M
 tail3-spec =

@@ -6,7 +6,9 @@ use Rattle.text.proofs.utf8.three.Statement.{statement}
 use Rattle.text.proofs.utf8.three.Tie as tie
 
 returns : tie.Need-returns
-returns c = c .tail3 .ensures ∙ rw (c .before .before .lowest .ensures, c .before .highest .ensures) (sym (char-three (c .before .before .before .before .before .pre)))
+returns c =
+    let start = c .before .before .before .before .before in
+    c .tail3 .ensures ∙ rw (c .before .before .lowest .ensures, c .before .highest .ensures) (sym (char-three (start .pre)))
 
 pub three-spec : {M : Type 1} → statement M
 three-spec =

@@ -11,10 +11,16 @@ returns : tie.Need-returns
 returns c = sym (rw (lt-ltb _ _ (c .if1 .taken)) at (char-two (c .before .before .before .pre)))
 
 returns-2 : tie.Need-returns-2
-returns-2 c = ap (λ (t : Bool). cond t 2 0) (sym (c .if2 .taken) ∙ c .before .in-range .ensures) ∙ sym (rw (le-ltb _ _ (c .before .before .if1 .left)) at (char-two (c .before .before .before .before .before .pre)))
+returns-2 c =
+    let start = c .before .before .before .before .before in
+    ap (λ (t : Bool). cond t 2 0) (sym (c .if2 .taken) ∙ c .before .in-range .ensures)
+    ∙ sym (rw (le-ltb _ _ (c .before .before .if1 .left)) at (char-two (start .pre)))
 
 returns-3 : tie.Need-returns-3
-returns-3 c = ap (λ (t : Bool). cond t 2 0) (sym (c .if2 .left) ∙ c .before .in-range .ensures) ∙ sym (rw (le-ltb _ _ (c .before .before .if1 .left)) at (char-two (c .before .before .before .before .before .pre)))
+returns-3 c =
+    let start = c .before .before .before .before .before in
+    ap (λ (t : Bool). cond t 2 0) (sym (c .if2 .left) ∙ c .before .in-range .ensures)
+    ∙ sym (rw (le-ltb _ _ (c .before .before .if1 .left)) at (char-two (start .pre)))
 
 pub two-spec : {M : Type 1} → statement M
 two-spec =

@@ -4,16 +4,24 @@ use Rattle.words.proofs.numbers.place.Statement.{statement}
 use Rattle.words.proofs.numbers.place.Tie as tie
 
 returns-5 : tie.Need-returns-5
-returns-5 c = rw (c .before .before .before .before .before .a .given .1, c .before .before .r3 .given .1) (c .low-word .ensures)
+returns-5 c =
+    let at-a = c .before .before .before .before .before in
+    rw (at-a .a .given .1, c .before .before .r3 .given .1) (c .low-word .ensures)
 
 returns-7 : tie.Need-returns-7
-returns-7 c = rw (c .before .before .before .before .before .a .given .1, c .before .before .r5 .given .1) (c .indent-place .ensures)
+returns-7 c =
+    let at-a = c .before .before .before .before .before in
+    rw (at-a .a .given .1, c .before .before .r5 .given .1) (c .indent-place .ensures)
 
 returns-11 : tie.Need-returns-11
-returns-11 c = rw (c .before .before .before .before .before .a .given .1, c .before .before .r9 .given .1) (c .low-word2 .ensures)
+returns-11 c =
+    let at-a = c .before .before .before .before .before in
+    rw (at-a .a .given .1, c .before .before .r9 .given .1) (c .low-word2 .ensures)
 
 returns-13 : tie.Need-returns-13
-returns-13 c = rw (c .before .before .before .before .before .a .given .1, c .before .before .r11 .given .1) (c .low-word3 .ensures)
+returns-13 c =
+    let at-a = c .before .before .before .before .before in
+    rw (at-a .a .given .1, c .before .before .r11 .given .1) (c .low-word3 .ensures)
 
 pub place-spec : {M : Type 1} → statement M
 place-spec =

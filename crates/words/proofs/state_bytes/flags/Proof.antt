@@ -5,10 +5,17 @@ use Rattle.words.proofs.state_bytes.flags.Statement.{statement}
 use Rattle.words.proofs.state_bytes.flags.Tie as tie
 
 returns : tie.Need-returns
-returns c = flags-five (c .before .before .before .before .before .before .args .state .now) (c .before .before .before .before .is-flag .ensures) (c .before .before .before .if1 .taken) (c .before .before .is-flag2 .ensures) (c .before .if2 .taken) (c .is-flag3 .ensures)
+returns c =
+    let then1 = c .before .before .before in
+    let start = then1 .before .before .before in
+    flags-five (start .args .state .now) (then1 .before .is-flag .ensures) (then1 .if1 .taken) (c .before .before .is-flag2 .ensures) (c .before .if2 .taken)
+    (c .is-flag3 .ensures)
 
 returns-2 : tie.Need-returns-2
-returns-2 c = flags-three (c .before .before .before .before .before .args .state .now) (c .before .before .before .is-flag .ensures) (c .before .before .if1 .taken) (c .before .is-flag2 .ensures) (c .if2 .left)
+returns-2 c =
+    let then1 = c .before .before in
+    let start = then1 .before .before .before in
+    flags-three (start .args .state .now) (then1 .before .is-flag .ensures) (then1 .if1 .taken) (c .before .is-flag2 .ensures) (c .if2 .left)
 
 returns-3 : tie.Need-returns-3
 returns-3 c = flags-two (c .before .before .before .args .state .now) (c .before .is-flag .ensures) (c .if1 .left)

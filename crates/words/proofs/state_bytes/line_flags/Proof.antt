@@ -15,13 +15,26 @@ abbrev μ-loop : tie.MeasureT-loop
 μ-loop state n k₀ k = n - k
 
 loop-again : tie.Need-loop-again Inv-loop μ-loop
-loop-again c = (omega arith, flags-more (c .before .before .before .before .before .args .state .now) (c .before .before .before .before .before .args .n) (c .before .before .before .loop .k) (c .before .before .loop-test .taken) (sym (c .before .is-flag .ensures) ∙ c .if1 .taken) ∙ c .before .before .before .loop .inv .1)
+loop-again c =
+    let at-loop = c .before .before .before in
+    let start = at-loop .before .before in (
+      omega arith,
+      flags-more (start .args .state .now) (start .args .n) (at-loop .loop .k) (c .before .before .loop-test .taken)
+          (sym (c .before .is-flag .ensures) ∙ c .if1 .taken)
+          ∙ at-loop .loop .inv .1,
+    )
 
 returns : tie.Need-returns Inv-loop μ-loop
-returns c = flags-stop (c .before .before .before .before .before .args .state .now) (c .before .before .before .before .before .args .n) (c .before .before .before .loop .k) (c .before .before .loop-test .taken) (sym (c .before .is-flag .ensures) ∙ c .if1 .left) ∙ c .before .before .before .loop .inv .1
+returns c =
+    let at-loop = c .before .before .before in
+    let start = at-loop .before .before in
+    flags-stop (start .args .state .now) (start .args .n) (at-loop .loop .k) (c .before .before .loop-test .taken) (sym (c .before .is-flag .ensures) ∙ c .if1 .left)
+    ∙ at-loop .loop .inv .1
 
 returns-2 : tie.Need-returns-2 Inv-loop μ-loop
-returns-2 c = flags-end (c .before .before .before .args .state .now) (c .before .before .before .args .n) (c .before .loop .k) (c .loop-test .left) ∙ c .before .loop .inv .1
+returns-2 c =
+    let start = c .before .before .before in
+    flags-end (start .args .state .now) (start .args .n) (c .before .loop .k) (c .loop-test .left) ∙ c .before .loop .inv .1
 
 pub line-flags-spec : {M : Type 1} → statement M
 line-flags-spec =

@@ -12,7 +12,10 @@ abbrev μ-loop : tie.MeasureT-loop
 μ-loop state queue₀ i₀ queue i = 1024 - i
 
 loop-again : tie.Need-loop-again Inv-loop μ-loop
-loop-again c = read-turn (c .before .before .before .before .loop .inv) (c .before .before .before .loop-test .taken) (c .before .word .ensures) (c .store .ensures)
+loop-again c =
+    let in-loop = c .before .before .before in
+    let at-loop = in-loop .before in
+    read-turn (at-loop .loop .inv) (in-loop .loop-test .taken) (c .before .word .ensures) (c .store .ensures)
 
 pub queue-in-spec : {M : Type 1} → statement M
 queue-in-spec =

@@ -6,7 +6,26 @@ use Rattle.words.proofs.state_bytes.read_state.Statement.{statement}
 use Rattle.words.proofs.state_bytes.read_state.Tie as tie
 
 returns : tie.Need-returns
-returns c = (rw (c .before .before .before .before .before .before .before .before .word .ensures, c .before .before .before .before .before .before .before .word2 .ensures, c .before .before .before .before .before .before .word3 .ensures, c .before .before .before .before .before .flag .ensures, c .before .before .before .before .flag2 .ensures, c .before .before .at-most-255 .ensures ∙ ap (λ (n : ℕ). min n 255) (c .before .before .before .word4 .ensures), c .before .flag3 .ensures, c .queue-in .ensures), search needs)
+returns c =
+    let at-word4 = c .before .before .before in
+    let at-flag2 = at-word4 .before in
+    let at-flag = at-flag2 .before in
+    let at-word3 = at-flag .before in
+    let at-word2 = at-word3 .before in
+    let at-word = at-word2 .before in (
+      rw (
+        at-word .word .ensures,
+        at-word2 .word2 .ensures,
+        at-word3 .word3 .ensures,
+        at-flag .flag .ensures,
+        at-flag2 .flag2 .ensures,
+        c .before .before .at-most-255 .ensures
+            ∙ ap (λ (n : ℕ). min n 255) (at-word4 .word4 .ensures),
+        c .before .flag3 .ensures,
+        c .queue-in .ensures,
+      ),
+      search needs,
+    )
 
 pub read-state-spec : {M : Type 1} → statement M
 read-state-spec =

@@ -5,7 +5,12 @@ use Rattle.words.proofs.state_bytes.shaped.Statement.{statement}
 use Rattle.words.proofs.state_bytes.shaped.Tie as tie
 
 returns-3 : tie.Need-returns-3
-returns-3 c = shape-lines _ _ (c .before .before .before .before .before .if1 .left) (c .before .before .before .before .if2 .left) (c .before .before .before .flags .ensures) (c .before .before .if3 .taken) (c .before .waiting .ensures .0) (c .line-flags .ensures)
+returns-3 c =
+    let then3 = c .before .before in
+    let else2 = then3 .before .before in
+    let else1 = else2 .before in
+    shape-lines _ _ (else1 .if1 .left) (else2 .if2 .left) (then3 .before .flags .ensures) (then3 .if3 .taken) (c .before .waiting .ensures .0)
+    (c .line-flags .ensures)
 
 returns-4 : tie.Need-returns-4
 returns-4 c = shape-flags _ _ (c .before .before .before .if1 .left) (c .before .before .if2 .left) (c .before .flags .ensures) (c .if3 .left)

@@ -1,16 +1,29 @@
 -- `words::state_bytes::write_state` meets its contract. Assumes nothing.
 use Rattle.words.proofs.WordLaws.{both-written, flags-in, second-long}
-use mathlib.Core.Path.{refl}
+use lib.ListN.{length}
+use mathlib.Core.Path.{_≡_, refl}
 use borrow.Author.Needs.{needs}
 use Rattle.words.proofs.state_bytes.write_state.Statement.{statement}
 use Rattle.words.proofs.state_bytes.write_state.Tie as tie
 
 write-requires-2 : tie.Need-write-requires-2
-write-requires-2 c κs = second-long (c .before .before .before .before .before .before .before .before .before .before .before .before .before .before .args .state .now) _ _ (c .before .before .before .before .before .before .before .before .before .before .before .before .before .before .args .s .queue) (c .before .before .before .before .before .before .before .before .before .before .before .before .before .before .pre .0) (c .before .before .before .before .write .ensures) refl (search needs)
+write-requires-2 c κs =
+    let at-write = c .before .before .before .before in
+    let start = at-write .before .before .before .before .before .before .before .before .before .before in
+    second-long (start .args .state .now) _ _ (start .args .s .queue) (start .pre .0) (at-write .write .ensures) refl (search needs)
 
 returns : tie.Need-returns
-returns c = flags-in (c .before .before .before .before .before .before .before .before .before .before .before .before .before .before .as-word .ensures) (c .before .before .before .before .before .before .before .before .before .before .before .before .before .as-word2 .ensures) (c .before .before .before .before .before .before .before .before .before .before .before .as-word3 .ensures)
-    (both-written (c .before .before .before .before .before .before .before .before .before .before .before .before .before .before .before .before .before .args .state .now) _ _ (c .before .before .before .before .before .before .before .before .before .before .before .before .before .before .before .before .before .args .s .queue) (c .before .before .before .before .before .before .before .before .before .before .before .before .before .before .before .before .before .pre .0) (c .before .before .before .before .before .before .before .write .ensures) refl (search needs) _ (c .before .before .write2 .ensures))
+returns c =
+    -- found before the places have names: they are more records than a search looks at
+    let long : length (c .before .before .before .before .before .before .before .before .before .before .before .before .before .before .before .before .before .args .s .queue) ≡ 1024 = search needs in
+    let at-write = c .before .before .before .before .before .before .before in
+    let at-as-word3 = at-write .before .before .before .before in
+    let at-as-word2 = at-as-word3 .before .before in
+    let at-as-word = at-as-word2 .before in
+    let start = at-as-word .before .before .before in
+    flags-in (at-as-word .as-word .ensures) (at-as-word2 .as-word2 .ensures) (at-as-word3 .as-word3 .ensures)
+    (both-written (start .args .state .now) _ _ (start .args .s .queue) (start .pre .0) (at-write .write .ensures) refl long _
+    (c .before .before .write2 .ensures))
 
 pub write-state-spec : {M : Type 1} → statement M
 write-state-spec =

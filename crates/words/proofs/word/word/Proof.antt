@@ -5,7 +5,12 @@ use Rattle.words.proofs.word.word.Statement.{statement}
 use Rattle.words.proofs.word.word.Tie as tie
 
 returns : tie.Need-returns
-returns c = word-is (c .before .before .before .before .before .before .before .before .before .args .s .now) (c .before .before .before .before .before .before .before .before .before .args .i) (c .before .before .before .before .before .before .wide .ensures .0) (c .before .before .before .before .wide2 .ensures .0) (c .before .before .wide3 .ensures .0) (c .wide4 .ensures .0)
+returns c =
+    let at-wide2 = c .before .before .before .before in
+    let at-wide = at-wide2 .before .before in
+    let start = at-wide .before .before .before in
+    word-is (start .args .s .now) (start .args .i) (at-wide .wide .ensures .0) (at-wide2 .wide2 .ensures .0) (c .before .before .wide3 .ensures .0)
+    (c .wide4 .ensures .0)
 
 pub word-spec : {M : Type 1} → statement M
 word-spec =

@@ -18,7 +18,10 @@ put-requires : tie.Need-put-requires Inv-loop μ-loop
 put-requires c κs = omega (arith, c .before .before .before .loop .inv .long, c .before .before .before .loop .inv .room)
 
 loop-again : tie.Need-loop-again Inv-loop μ-loop
-loop-again c = write-turn (c .before .before .before .before .before .before .loop .inv) (c .before .before .before .before .before .loop-test .taken) refl (c .before .before .put .kept .0) (c .before .before .put .ensures)
+loop-again c =
+    let in-loop = c .before .before .before .before .before in
+    let at-loop = in-loop .before in
+    write-turn (at-loop .loop .inv) (in-loop .loop-test .taken) refl (c .before .before .put .kept .0) (c .before .before .put .ensures)
 
 returns : tie.Need-returns Inv-loop μ-loop
 returns c = write-end (c .before .loop .inv) (c .loop-test .left) (λ k. omega (arith, c .before .before .before .shared-slice-known .given k))
