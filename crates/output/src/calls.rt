@@ -72,7 +72,7 @@ pub fn write_owned(
     if go.stopped() {
         return go;
     }
-    write_node(src, table, queue, out, go, flushed(go, false), due(go), k)
+    write_node(src, table, queue, out, go, flushed(go, false), due(go), k).anew()
 }
 
 pub fn write_raw(
@@ -89,7 +89,7 @@ pub fn write_raw(
     if go.stopped() {
         return go;
     }
-    write_node(src, table, queue, out, go, go, no_gap(), k)
+    write_node(src, table, queue, out, go, go, no_gap(), k).anew()
 }
 
 pub fn ignore(

@@ -33,6 +33,10 @@ is-done (Refused e) h = let z : _≡_ {A = ℕ} 0 1 = cc in absurd (omega arith)
 pub goes : {a : Answer} {t : Bool} → t ≡ isRefused a → t ≡ false → a ≡ Done
 goes {a} e h = is-done a (sym e ∙ h)
 
+-- a run answered as it was is the same run
+pub answered-own : (run : Run) {a : Answer} → run .answer ≡ a → answered run a ≡ run
+answered-own run h = ap (answered run) (sym h)
+
 -- an open run answered anew is the same run
 pub anew : (run : Run) → run .answer ≡ Done → answered run Done ≡ run
 anew run h = ap (answered run) (sym h)

@@ -201,8 +201,8 @@ pub fn release_waiting(src: &[u8], queue: &[u32; 1024], out: &mut [u8], run: Run
 {
     if run.count == 0 {
         if run.len <= out.len() {
-            return run;
+            return run.anew();
         }
     }
-    release(src, queue, out, run, way)
+    release(src, queue, out, run, way).anew()
 }

@@ -63,6 +63,18 @@ impl Run {
         self.answered(answer)
     }
 
+    // The same run, its answer made anew. Some bytes between an answer's mark and its refusal are unused; where a run comes back from a
+    // function by memory they would be copied on from call to call, and x86-64 waits for each such copy.
+    pub fn anew(self) -> Run
+        ensures { λ r. ⌜ r ≡ self ⌝ }
+    {
+        let a = self.answer;
+        match a {
+            Answer::Done => self.answered(Answer::Done),
+            Answer::Refused(r) => self.answered(Answer::Refused(r)),
+        }
+    }
+
     // The output is so long.
     pub fn moved(mut self, len: usize) -> Run
         ensures { λ r. ⌜ r ≡ movedRun self len ⌝ }
@@ -100,7 +112,7 @@ impl Run {
         ensures { λ r. ⌜ r ≡ readyRun self ⌝ }
     {
         if self.stopped() {
-            return self;
+            return self.anew();
         }
         if self.finished {
             return self.refused(Refusal::Finished(self.len));

@@ -15,13 +15,15 @@ returns c =
 
 returns-2 : tie.Need-returns-2
 returns-2 c =
-    let at-due = c .before .before .before in
+    let at-write-node = c .before .before .before in
+    let at-due = at-write-node .before in
     let at-flushed = at-due .before in
     let else1 = at-flushed .before .before .before in
     let at-ready-for = else1 .before .before in
     let start = at-ready-for .before .before .before .before in
-    ran-present (start .args .run) (at-ready-for .ready-for .ensures) refl
-    (owned-is (goes (else1 .before .stopped .ensures) (else1 .if1 .left)) (at-due .due .ensures) (at-flushed .flushed .ensures) (c .before .before .write-node .ensures))
+    rw (c .anew .ensures)
+    (ran-present (start .args .run) (at-ready-for .ready-for .ensures) refl
+    (owned-is (goes (else1 .before .stopped .ensures) (else1 .if1 .left)) (at-due .due .ensures) (at-flushed .flushed .ensures) (at-write-node .write-node .ensures)))
 
 pub write-owned-spec : {M : Type 1} → statement M
 write-owned-spec =
@@ -33,5 +35,6 @@ write-owned-spec =
     (λ c κs. search needs)
     (λ c κs. search needs)
     (λ c κs. search needs)
-    (λ c. c .before .before .write-node .ensures .long)
+    (λ c κs. search needs)
+    (λ c. c .before .before .before .write-node .ensures .long)
     returns-2)

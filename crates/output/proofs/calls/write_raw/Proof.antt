@@ -15,12 +15,14 @@ returns c =
 
 returns-2 : tie.Need-returns-2
 returns-2 c =
-    let at-no-gap = c .before .before .before in
+    let at-write-node = c .before .before .before in
+    let at-no-gap = at-write-node .before in
     let else1 = at-no-gap .before .before .before in
     let at-ready-for = else1 .before .before in
     let start = at-ready-for .before .before .before .before in
-    ran-present (start .args .run) (at-ready-for .ready-for .ensures) refl
-    (raw-is (goes (else1 .before .stopped .ensures) (else1 .if1 .left)) (at-no-gap .no-gap .ensures) (c .before .before .write-node .ensures))
+    rw (c .anew .ensures)
+    (ran-present (start .args .run) (at-ready-for .ready-for .ensures) refl
+    (raw-is (goes (else1 .before .stopped .ensures) (else1 .if1 .left)) (at-no-gap .no-gap .ensures) (at-write-node .write-node .ensures)))
 
 pub write-raw-spec : {M : Type 1} → statement M
 write-raw-spec =
@@ -31,5 +33,6 @@ write-raw-spec =
     returns
     (λ c κs. search needs)
     (λ c κs. search needs)
-    (λ c. c .before .before .write-node .ensures .long)
+    (λ c κs. search needs)
+    (λ c. c .before .before .before .write-node .ensures .long)
     returns-2)

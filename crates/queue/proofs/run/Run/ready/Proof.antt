@@ -7,7 +7,7 @@ use Rattle.queue.proofs.run.Run.ready.Statement.{statement}
 use Rattle.queue.proofs.run.Run.ready.Tie as tie
 
 returns : tie.Need-returns
-returns c = ready-stopped _ (sym (c .before .stopped .ensures) ∙ c .if1 .taken)
+returns c = c .anew .ensures ∙ ready-stopped _ (sym (c .before .before .stopped .ensures) ∙ c .before .if1 .taken)
 
 returns-2 : tie.Need-returns-2
 returns-2 c = c .refused .ensures ∙ ready-finished _ (goes (c .before .before .before .stopped .ensures) (c .before .before .if1 .left)) (c .before .if2 .taken)
@@ -21,6 +21,7 @@ pub ready-spec : {M : Type 1} → statement M
 ready-spec =
     tie.close
     (tie.spec
+    (λ c κs. search needs)
     (λ c κs. search needs)
     returns
     (λ c κs. search needs)
