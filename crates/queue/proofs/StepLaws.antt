@@ -1,7 +1,7 @@
 -- Steps from a result on: a refusal stays, and an open engine goes on. Assumes nothing.
 use mathlib.Core.Path.{_≡_, refl, sym, ap, _∙_}
 use mathlib.Core.Bool.{Bool, true, false}
-use mathlib.Core.List.{List, [], _∷_}
+use mathlib.Core.List.{List}
 use Prim.Native.Nat.{ℕ}
 use native.Mathlib.Omega.{arith}
 use lib.ListN.{length}
@@ -14,8 +14,8 @@ use Rattle.meaning.specs.declared.answer.Answer.{Answer}
 use Rattle.meaning.specs.declared.answer.Answer.the-variants.{Done, Refused}
 use Rattle.meaning.specs.State.{Script, State}
 use Rattle.meaning.specs.Pieces.{Piece, Emit}
-use Rattle.meaning.specs.Outcome.{Outcome, done, refused, refuseIf}
-use Rattle.meaning.specs.Calls.{act, Named, no-node, a-node, namedBy, ifThere, ifOpen, step}
+use Rattle.meaning.specs.Outcome.{Outcome, done, refuseIf}
+use Rattle.meaning.specs.Calls.{act, no-node, a-node, namedBy, ifThere, step}
 use Rattle.meaning.specs.World.{World, world, capacity, Result, result, made}
 use Rattle.meaning.specs.Plan.{make, goOn, exec}
 use Rattle.queue.specs.declared.run.Run.{Run}
@@ -36,10 +36,6 @@ goes {a} e h = is-done a (sym e ∙ h)
 -- a run answered as it was is the same run
 pub answered-own : (run : Run) {a : Answer} → run .answer ≡ a → answered run a ≡ run
 answered-own run h = ap (answered run) (sym h)
-
--- an open run answered anew is the same run
-pub anew : (run : Run) → run .answer ≡ Done → answered run Done ≡ run
-anew run h = ap (answered run) (sym h)
 
 pub moved-anew : {m a : Run} (next : Run) {n : ℕ} → m ≡ movedRun a n → a ≡ answered next Done → m ≡ movedRun (answered next Done) n
 moved-anew next {n} e f = e ∙ ap (λ (z : Run). movedRun z n) f

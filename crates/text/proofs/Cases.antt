@@ -1,9 +1,7 @@
 -- Worked cases of the definitions, computed by antt. Assumes nothing.
 use mathlib.Core.Path.{_≡_, refl}
-use mathlib.Core.List.{List, [], _∷_, map}
-use Prim.Native.Nat.{ℕ}
-use Rattle.text.specs.declared.source.Checked.{Checked}
-use Rattle.text.specs.declared.source.Checked.the-variants.{Good, Long, Ill}
+use mathlib.Core.List.{[], _∷_, map}
+use Rattle.text.specs.declared.source.Checked.the-variants.{Good, Ill}
 use Rattle.text.specs.White.{mem, whites, isWhite}
 use Rattle.text.specs.Utf8.{table, allIn, lenBy, charLen, formedFrom}
 use Rattle.text.specs.Source.{checked}

@@ -8,11 +8,11 @@ use native.Mathlib.Omega.{arith}
 use lib.Dec.{leb, ltb, eqb, eqb·suc-zero, eqb·suc-suc}
 use lib.ListN.{length, drop, getD, drop-of-length-le}
 use lib.Seq.{drop-cons, drop-drop, getD-drop}
-use borrow.Author.Tests.{le-leb, lt-leb, leb-true, leb-false, ltb-true, lt-ltb, le-ltb}
+use borrow.Author.Tests.{le-leb, lt-leb, leb-true, leb-false, ltb-true, lt-ltb}
 use Rattle.text.specs.declared.chars.Char.{Char}
 use Rattle.text.specs.declared.utf8.Formed.{Formed}
-use Rattle.text.specs.declared.utf8.Formed.the-variants.{Well, Ill}
-use Rattle.text.specs.Utf8.{Range, Row, _⋯_, _then_, cont, inRange, table, allIn, lenBy, charLen, atLead, formedFrom}
+use Rattle.text.specs.declared.utf8.Formed.the-variants.{Well}
+use Rattle.text.specs.Utf8.{Range, Row, cont, inRange, table, allIn, lenBy, charLen, atLead, formedFrom}
 use Rattle.text.specs.Chars.{edgeFrom, edge, starts, code, charsFrom, stepOf, charAt}
 use Rattle.text.proofs.Bools.{and-l, and-r}
 use Rattle.text.proofs.RowLaws.{char-fits}

@@ -8,13 +8,13 @@ use native.Mathlib.Numerals.{add-one}
 use native.Mathlib.Omega.{arith}
 use mir.Val.{boolByte}
 use lib.Dec.{leb, ltb, eqb}
-use lib.ListN.{length, take, drop, getD, length-take, length-drop, drop-of-length-le}
-use lib.Seq.{drop-cons, drop-drop}
+use lib.ListN.{length, take, drop, getD, drop-of-length-le}
+use lib.Seq.{drop-cons}
 use borrow.Author.Tests.{ltb-true}
 use Rattle.text.specs.declared.chars.Char.{Char}
 use Rattle.text.specs.White.{mem, whites, isWhite}
 use Rattle.text.specs.Utf8.{charLen, allPlain}
-use Rattle.text.specs.Chars.{charsFrom, chars, code, charAt, dark, counted}
+use Rattle.text.specs.Chars.{charsFrom, chars, charAt, dark, counted}
 use Rattle.text.specs.Walk.{PlainBlock, Tallied}
 use Rattle.text.proofs.Bools.{and-l, and-r, below-at}
 use Rattle.text.proofs.CharLaws.{step-fits, step-pos, chars-next, chars-none, char-plain}
@@ -58,15 +58,6 @@ dark-next s k w h e = rw (drop-cons s k 0 h, add-one, ← e) (one-more w (dark (
 pub dark-end : (s : List ℕ) (k : ℕ) → length s ≤ k → dark (drop k s) ≡ 0
 unfolding dark
 dark-end s k h = rw (drop-of-length-le s h)
-
-dark-le : (cs : List ℕ) → dark cs ≤ length cs
-unfolding dark
-dark-le [] = omega arith
-dark-le (c ∷ cs) = go (isWhite c) (dark-le cs)
-  where
-    go : (w : Bool) → dark cs ≤ length cs → cond w (dark cs) (suc (dark cs)) ≤ suc (length cs)
-    go true h = omega arith
-    go false h = omega arith
 
 -- ---- walks
 

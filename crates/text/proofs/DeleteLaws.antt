@@ -5,9 +5,9 @@ use mathlib.Core.List.{List, [], _∷_, _++_, append-nil}
 use Prim.Native.Nat.{ℕ, zero, suc, pred, _+_, _*_, _%_, _≤_, _<_, zero-le}
 use native.Mathlib.Nat.{le-of-suc-le-suc, not-suc-le-zero}
 use native.Mathlib.Omega.{arith}
-use lib.Dec.{leb, ltb}
+use lib.Dec.{ltb}
 use lib.ListN.{length, getD, replicate, List·getD-append}
-use borrow.Author.Tests.{ltb-true, ltb-false}
+use borrow.Author.Tests.{ltb-false}
 use Rattle.text.specs.declared.utf8.Formed.the-variants.{Well}
 use Rattle.text.specs.White.{mem, whites, isWhite}
 use Rattle.text.specs.Utf8.{cont, inRange, charLen, formedFrom, formed}
@@ -18,7 +18,7 @@ use Rattle.text.proofs.RowLaws.{char-le, char-append}
 use Rattle.text.proofs.WalkLaws.{plain-char}
 use Rattle.text.proofs.CharLaws.{well-lead}
 use Rattle.text.proofs.FormedLaws.{behind-le, formed-front}
-use Rattle.text.proofs.LineLaws.{Ends, trim-ends}
+use Rattle.text.proofs.LineLaws.{trim-ends}
 
 -- ---- joining
 

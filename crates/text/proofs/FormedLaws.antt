@@ -1,16 +1,15 @@
 -- Parts of a well-formed text at character boundaries, and texts joined, are well-formed. Assumes nothing.
 use mathlib.Core.Path.{_≡_, refl, sym, ap, _∙_}
-use mathlib.Core.Bool.{Bool, true, false, not, _&&_, false≢true}
+use mathlib.Core.Bool.{true, false, false≢true}
 use mathlib.Core.List.{List, [], _∷_, _++_}
-use Prim.Native.Nat.{ℕ, zero, suc, pred, _+_, _-_, _≤_, _<_, zero-le, suc-le-suc}
+use Prim.Native.Nat.{ℕ, zero, suc, pred, _+_, _-_, _≤_, zero-le, suc-le-suc}
 use native.Mathlib.Nat.{le-of-suc-le-suc, not-suc-le-zero, sub-zero, suc-sub-suc}
-use native.Mathlib.Omega.{arith}
 use lib.ListN.{length, take, drop}
 use Rattle.text.specs.declared.utf8.Formed.{Formed}
-use Rattle.text.specs.declared.utf8.Formed.the-variants.{Well, Ill}
+use Rattle.text.specs.declared.utf8.Formed.the-variants.{Well}
 use Rattle.text.specs.Utf8.{cont, inRange, charLen, atLead, formedFrom, formed}
 use Rattle.text.specs.Span.{between}
-use Rattle.text.specs.Chars.{edgeFrom, edge, starts}
+use Rattle.text.specs.Chars.{edgeFrom, starts}
 use Rattle.text.proofs.RowLaws.{char-le, char-append, char-take}
 use Rattle.text.proofs.CharLaws.{well-lead, starts-edge}
 

@@ -1,26 +1,24 @@
 -- What callers may rely on, one law each: nobody above unfolds a definition of this crate. Assumes nothing.
-use mathlib.Core.Path.{_≡_, refl, sym, ap, _∙_}
+use mathlib.Core.Path.{_≡_, refl, ap, _∙_}
 use mathlib.Core.Logic.{⊎-elim}
-use mathlib.Core.Bool.{Bool, true, false, cond, _&&_}
-use mathlib.Core.List.{List, [], _∷_, _++_}
-use Prim.Native.Nat.{ℕ, suc, _+_, _-_, _*_, _≤_, _<_, min, max}
+use mathlib.Core.Bool.{Bool, true, false, cond}
+use mathlib.Core.List.{List, [], _++_}
+use Prim.Native.Nat.{ℕ, suc, _+_, _-_, _≤_, min}
 use native.Mathlib.Nat.{le-of-lt, min-eq-left, min-eq-right, min-le-left, min-le-right, max-eq-left, max-eq-right, max-le, le-max-left}
 use native.Mathlib.Omega.{arith}
 use lib.Dec.{leb, ltb}
-use lib.ListN.{length, take, drop, replicate, length-take, length-drop}
+use lib.ListN.{length, replicate, length-take, length-drop}
 use borrow.Author.Tests.{leb-true, le-leb, ltb-true, ltb-false, lt-ltb, le-ltb}
-use Rattle.text.specs.declared.span.BytePos.{BytePos}
 use Rattle.text.specs.declared.span.Span.{Span}
 use Rattle.text.specs.declared.utf8.Formed.{Formed}
 use Rattle.text.specs.declared.utf8.Formed.the-variants.{Well, Ill}
-use Rattle.text.specs.declared.source.Checked.{Checked}
 use Rattle.text.specs.declared.source.Checked.the-variants as source
-use Rattle.text.specs.Span.{between, textOf, joined}
+use Rattle.text.specs.Span.{textOf, joined}
 use Rattle.text.specs.Utf8.{formed}
 use Rattle.text.specs.Source.{ofFormed, checked}
 use Rattle.text.specs.Chars.{edge, starts, inSource, chars, dark, counted}
 use Rattle.text.specs.Lines.{trim, newlines}
-use Rattle.text.specs.Delete.{delete, Blank, is-space, is-newline, Blanks}
+use Rattle.text.specs.Delete.{delete, Blank, Blanks}
 use Rattle.text.proofs.Bools.{and-l, and-r, le-or-lt}
 use Rattle.text.proofs.CharLaws as chars-laws
 use Rattle.text.proofs.LineLaws as lines-laws

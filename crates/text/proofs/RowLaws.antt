@@ -6,13 +6,13 @@ use Prim.Native.Nat.{ℕ, zero, suc, pred, _+_, _≤_, _<_, zero-le, suc-le-suc}
 use native.Mathlib.Nat.{le-of-suc-le-suc}
 use native.Mathlib.Numerals.{add-one}
 use native.Mathlib.Omega.{arith}
-use lib.Dec.{leb, ltb, eqb}
+use lib.Dec.{ltb, eqb}
 use lib.ListN.{length, take, drop, getD, length-drop, drop-of-length-le}
 use lib.Seq.{drop-cons}
 use borrow.Author.Tests.{eqb-true, lt-ltb, le-ltb}
 use Rattle.text.specs.Utf8.{Range, Row, _⋯_, cont, inRange, table, allIn, lenBy, second, charLen}
 use Rattle.text.specs.Walk.{ByteIn}
-use Rattle.text.proofs.Bools.{and-l, and-r, and-true, below, below-at}
+use Rattle.text.proofs.Bools.{and-l, and-r, and-true, below-at}
 
 -- ---- ranges at a place
 

@@ -12,9 +12,8 @@ use lib.ListN.{length, take, drop, getD, length-drop, drop-of-length-le}
 use lib.Bits.{bitOr, or-lt, or-add-and, and-le-l, and-le-r}
 use lib.Seq.{drop-cons, drop-drop}
 use borrow.Author.Tests.{le-leb, leb-true, leb-false, ltb-true, ltb-false, lt-ltb, le-ltb}
-use Rattle.text.specs.declared.utf8.Formed.{Formed}
 use Rattle.text.specs.declared.utf8.Formed.the-variants.{Well, Ill}
-use Rattle.text.specs.Utf8.{_⋯_, _then_, inRange, table, allIn, lenBy, charLen, atLead, formedFrom, allPlain}
+use Rattle.text.specs.Utf8.{table, allIn, lenBy, charLen, atLead, formedFrom, allPlain}
 use Rattle.text.specs.Walk.{Past, PlainTo}
 use Rattle.text.proofs.Bools.{and-l, and-r, and-assoc, and-true, le-or-lt}
 use Rattle.text.proofs.RowLaws.{char-fits, char-one}

@@ -5,7 +5,7 @@ use mathlib.Core.Logic.{_⊎_, inl, inr, ⊎-elim}
 use mathlib.Core.Bool.{Bool, true, false, cond, _&&_, _||_, true≢false, false≢true}
 use mathlib.Core.List.{List, [], _∷_, _++_}
 use Prim.Native.Nat.{ℕ, zero, suc, pred, _+_, _-_, _≤_, _<_}
-use native.Mathlib.Nat.{le-of-suc-le-suc, not-suc-le-zero, add-suc, suc-add}
+use native.Mathlib.Nat.{not-suc-le-zero, suc-add}
 use native.Mathlib.Omega.{arith}
 use lib.Dec.{leb, eqb}
 use lib.ListN.{length, take, drop, take-append-drop, length-drop}
@@ -13,11 +13,10 @@ use lib.Seq.{length-take-le, drop-append-seam, drop-drop, take-add}
 use borrow.Author.Tests.{leb-true, lt-leb, eqb-true, eq-eqb}
 use Rattle.text.specs.declared.utf8.Formed.{Formed}
 use Rattle.text.specs.declared.utf8.Formed.the-variants.{Well, Ill}
-use Rattle.text.specs.Utf8.{Range, Row, _⋯_, _then_, inRange, table, allIn, isRow, isSequence, WellFormed, none, more, FirstIll, lenBy, charLen, atLead, formedFrom, formed}
+use Rattle.text.specs.Utf8.{Range, Row, inRange, table, allIn, isRow, isSequence, WellFormed, none, more, FirstIll, lenBy, charLen, atLead, formedFrom, formed}
 use Rattle.text.proofs.Bools.{and-l, and-r, or-cases}
 use Rattle.text.proofs.RowLaws.{all-long, all-take, all-append, char-le}
 use Rattle.text.proofs.WalkLaws.{formed-skip}
-use Rattle.text.proofs.CharLaws.{well-lead}
 
 -- ---- a length that the table gives is that of a sequence
 

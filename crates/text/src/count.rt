@@ -96,8 +96,8 @@ fn over_plain(t: &[u8], from: usize, left: u64) -> Tally
     Tally { dark: n, end: i }
 }
 
-// Over the plain bytes at `from`, behind a character of so many bytes: one of several bytes mostly stands before another, and is asked
-// for none.
+// Over the plain bytes at `from`, behind a character of `len` bytes. Behind one of several bytes none are looked for: another such
+// character mostly follows, and a block tried there is time lost.
 fn over_next(t: &[u8], from: usize, len: usize, left: u64) -> Tally
     requires { ⌜ from ≤ length (now t) ⌝ }
     ensures { λ r. ⌜ Tallied (now (t .entry)) from (r .end) (r .dark) ⌝ }

@@ -1,6 +1,6 @@
 -- `output::flush::put` meets its contract: refused already, no room, or written. Assumes nothing.
 use Rattle.output.proofs.CallLaws.{put-done, put-past, put-stopped}
-use Rattle.queue.proofs.StepLaws.{anew, goes}
+use Rattle.queue.proofs.StepLaws.{answered-own, goes}
 use Rattle.queue.specs.Run.{flushedRun}
 use mathlib.Core.Path.{_∙_, ap, sym}
 use borrow.Author.Needs.{needs}
@@ -47,7 +47,7 @@ returns-3 c =
     let start = else1 .before .before .before .before in
     put-done (start .args .t .now) (start .args .run) (at-due .due .result) (at-due .due .ensures) (goes (else1 .before .stopped .ensures) (else1 .if1 .left))
     (sym (else2 .before .passes .ensures .0) ∙ else2 .if2 .left)
-    (c .before .before .flushed .ensures ∙ ap (flushedRun _) (at-answered .answered .ensures ∙ anew _ (goes (else1 .before .stopped .ensures) (else1 .if1 .left))))
+    (c .before .before .flushed .ensures ∙ ap (flushedRun _) (at-answered .answered .ensures ∙ answered-own _ (goes (else1 .before .stopped .ensures) (else1 .if1 .left))))
     (c .moved .ensures) (at-lay .lay .ensures)
 
 pub put-spec : {M : Type 1} → statement M

@@ -2,7 +2,6 @@
 use Rattle.text.proofs.CountLaws.{white-plain}
 use borrow.Author.Tests.{eq-eqb, ne-eqb, le-leb, lt-leb}
 use mathlib.Core.Path.{_∙_, sym}
-use native.Mathlib.Omega.{arith}
 use Rattle.text.proofs.count.white_byte.Statement.{statement}
 use Rattle.text.proofs.count.white_byte.Tie as tie
 
