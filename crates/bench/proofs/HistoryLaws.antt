@@ -2,7 +2,7 @@
 use mathlib.Core.Path.{_≡_, refl, sym, ap, _∙_}
 use mathlib.Core.Bool.{Bool, true, false, cond, _&&_, _||_}
 use mathlib.Core.List.{List, [], _∷_}
-use mathlib.Core.Option.{Option, none, some}
+use mathlib.Core.Option.{Option}
 use Prim.Native.Nat.{ℕ, zero, suc, _+_, _-_, _*_, _≤_, _<_, min}
 use native.Mathlib.Nat.{add-zero}
 use native.Mathlib.Omega.{arith}
@@ -14,19 +14,16 @@ use Rattle.tree.specs.declared.record.RecordNo.{RecordNo}
 use Rattle.tree.specs.Table.{treeOf, roomOf, fitting, Decoded}
 use Rattle.meaning.specs.declared.call.Call.{Call}
 use Rattle.entry.specs.declared.decode.Decoded as read
-use Rattle.queue.specs.declared.run.Run.{Run}
 use Rattle.entry.specs.declared.state.State as code
-use Rattle.meaning.specs.declared.answer.Refusal.the-variants.{BadCall}
-use Rattle.meaning.specs.declared.answer.Answer.{Answer}
-use Rattle.meaning.specs.declared.answer.Answer.the-variants.{Done, Refused}
+use Rattle.meaning.specs.declared.answer.Answer.the-variants.{Done}
 use Rattle.meaning.specs.State.{Script, fresh}
 use Rattle.meaning.specs.CallRecord.{decode}
-use Rattle.meaning.specs.World.{World, world, opened, capacity, Result, result}
-use Rattle.meaning.specs.Plan.{Plan, nothing, make, refuse, _then_, exec, Ran}
-use Rattle.queue.specs.Run.{answered, isRefused}
-use Rattle.queue.specs.View.{tab, view, resultOf, scriptOf}
+use Rattle.meaning.specs.World.{opened, Result, result}
+use Rattle.meaning.specs.Plan.{Plan, nothing, _then_, exec}
+use Rattle.queue.specs.View.{tab, scriptOf}
+use Rattle.queue.specs.Words.{runOf}
+use Rattle.queue.specs.Loans.{Engine, engine, reads, Makes}
 use Rattle.entry.specs.Served.{encoded, startedRun, asCall}
-use Rattle.meaning.proofs.Chain.{keeps}
 use Rattle.bench.specs.Packed.{reachedAs}
 use Rattle.bench.specs.History.{bodyLen, askedAt, callsFrom, callsIn, scriptAt, replayed, Replayed}
 
@@ -123,66 +120,40 @@ record-rest s at n e h = take-all (length s - at) (drop at s) (omega (arith, len
 -- ---- the loop
 
 -- from byte `at` on is as much as from the start
-pub record Going (x : Script) (bytes : List ℕ) (r₀ r : Result) (at : ℕ) : Type 0 where
+pub record Going (x : Script) (bytes : List ℕ) (e₀ e : Engine) (at : ℕ) : Type 0 where
   pub within : at ≤ length bytes
-  pub same : exec x (callsFrom 0 at (drop at bytes)) r ≡ exec x (callsIn bytes) r₀
-  pub long : capacity (r .left) ≡ capacity (r₀ .left)
+  pub same : exec x (callsFrom 0 at (drop at bytes)) (reads e) ≡ exec x (callsIn bytes) (reads e₀)
 
-pub going-none : {x : Script} {bytes : List ℕ} {r : Result} → Going x bytes r r 0
-going-none = record { within = omega arith; same = refl; long = refl }
+pub going-none : {x : Script} {bytes : List ℕ} {e : Engine} → Going x bytes e e 0
+going-none = record { within = omega arith; same = refl }
 
-pub going-more : {x : Script} {bytes : List ℕ} {r₀ r r′ : Result} {at : ℕ} {t : List ℕ} (d : read.Decoded) → Going x bytes r₀ r at → (h : at < length bytes)
-    → (e : t ≡ take (1 + bodyLen (getD bytes at 0)) (drop at bytes)) → asCall d ≡ decode t → Ran x (askedAt at (asCall d)) r r′ → Going x bytes r₀ r′ (at + length t)
+pub going-more : {x : Script} {bytes : List ℕ} {e₀ e e′ : Engine} {at : ℕ} {t : List ℕ} (d : read.Decoded) → Going x bytes e₀ e at → (h : at < length bytes)
+    → (q : t ≡ take (1 + bodyLen (getD bytes at 0)) (drop at bytes)) → asCall d ≡ decode t → Makes x (askedAt at (asCall d)) e e′ → Going x bytes e₀ e′ (at + length t)
 unfolding exec
-going-more {x} {bytes} {r₀} {r} {r′} {at} {t} d g h e a k = record {
-  within = few-bytes bytes at h e;
-  same = ap (exec x (callsFrom 0 (at + length t) (drop (at + length t) bytes))) (k .ran ∙ ap (λ (o : Option Call). exec x (askedAt at o) r) a) ∙ ap (λ (p : Plan). exec x p r) (sym (calls-cons bytes at h e)) ∙ g .same;
-  long = keeps k ∙ g .long;
+going-more {x} {bytes} {e₀} {e} {e′} {at} {t} d g h q a k = record {
+  within = few-bytes bytes at h q;
+  same = ap (exec x (callsFrom 0 (at + length t) (drop (at + length t) bytes))) (k .ran .ran ∙ ap (λ (o : Option Call). exec x (askedAt at o) (reads e)) a) ∙ ap (λ (p : Plan). exec x p (reads e)) (sym (calls-cons bytes at h q)) ∙ g .same;
 }
 
-pub going-end : {x : Script} {bytes : List ℕ} {r₀ r : Result} {at : ℕ} → Going x bytes r₀ r at → length bytes ≤ at → Ran x (callsIn bytes) r₀ r
+pub going-end : {x : Script} {bytes : List ℕ} {e₀ e : Engine} {at : ℕ} → Going x bytes e₀ e at → length bytes ≤ at → Makes x (callsIn bytes) e₀ e
 unfolding exec
-going-end {x} {bytes} {r₀} {r} {at} g h = record { ran = ap (λ (p : Plan). exec x p r) (sym (calls-none bytes at at h)) ∙ g .same }
+going-end {x} {bytes} {e₀} {e} {at} g h = record { ran = record { ran = ap (λ (p : Plan). exec x p (reads e)) (sym (calls-none bytes at at h)) ∙ g .same } }
 
--- ---- a record's call
+-- ---- on a fresh engine
 
-stays-refused : (x : Script) (p : ℕ) (a : Answer) (w : World) → isRefused a ≡ true → result a w ≡ exec x (refuse (BadCall p)) (result a w)
-unfolding exec
-stays-refused x p Done w h = let z : _≡_ {A = ℕ} 0 1 = cc in absurd (omega arith)
-stays-refused x p (Refused r) w h = refl
+-- whatever the ring holds
+pub starts-fresh : {s : code.State} → s ≡ encoded fresh → (w : List ℕ) → runOf w ≡ startedRun (s .now) Done → (q b : List ℕ) → reads (engine w q b) ≡ result Done (opened b)
+unfolding reads tab
+starts-fresh es w er q b = rw (er, es)
 
-is-bad : (x : Script) (p : ℕ) (a : Answer) (w : World) → isRefused a ≡ false → result (Refused (BadCall p)) w ≡ exec x (refuse (BadCall p)) (result a w)
-unfolding exec
-is-bad x p Done w h = refl
-is-bad x p (Refused r) w h = let z : _≡_ {A = ℕ} 0 1 = cc in absurd (omega arith)
-
-pub asked-made : {x : Script} (at : ℕ) {o : Option Call} {c : Call} {r r′ : Result} → o ≡ some c → Ran x (make c) r r′ → Ran x (askedAt at o) r r′
-asked-made at e h = rw e h
-
-pub asked-stopped : {x : Script} (at : ℕ) {o : Option Call} (run : Run) (q : List ℕ) {b : List ℕ} → o ≡ none → isRefused (run .answer) ≡ true → Ran x (askedAt at o) (resultOf run q b) (resultOf run q b)
-asked-stopped {x} at run q {b} e h = rw e (record { ran = stays-refused x at (run .answer) (world (view run q) b) h })
-
-pub asked-bad : {x : Script} (at : ℕ) {o : Option Call} (run : Run) {r : Run} (q : List ℕ) {b : List ℕ} → o ≡ none → isRefused (run .answer) ≡ false → r ≡ answered run (Refused (BadCall at))
-    → Ran x (askedAt at o) (resultOf run q b) (resultOf r q b)
-asked-bad {x} at run q {b} e h er = rw (e, er) (record { ran = is-bad x at (run .answer) (world (view run q) b) h })
-
--- ---- the whole list on a fresh engine
-
-module _ (src tree words table bytes b : List ℕ) {n : RecordNo} (d : Decoded tree words (n .0) table) (room : length words ≡ 32768) {tb : List ℕ} (et : tb ≡ take (n .0 * 4) table)
-    {s : code.State} (es : s ≡ encoded fresh) {run : Run} (er : run ≡ startedRun (s .now) Done) where
-  tree-is : treeOf tb ≡ scriptAt src tree .tree
+module _ (src tree words table : List ℕ) {n : RecordNo} (d : Decoded tree words (n .0) table) (room : length words ≡ 32768) {tb : List ℕ} (et : tb ≡ take (n .0 * 4) table) where
+  pub tree-is : treeOf tb ≡ scriptAt src tree .tree
   unfolding fitting roomOf
   tree-is = rw et (d .reads ∙ rw room)
 
-  starts-fresh : resultOf run (s .queue) b ≡ result Done (opened b)
-  unfolding tab
-  starts-fresh = rw (er, es)
-
-  replay-is : {r : Result} → Ran (scriptOf src tb) (callsIn bytes) (resultOf run (s .queue) b) r → r ≡ replayed src tree bytes b
-  replay-is h = h .ran ∙ rw (tree-is, starts-fresh)
-
-  pub replays : {r : Result} {z : ℕ} → Ran (scriptOf src tb) (callsIn bytes) (resultOf run (s .queue) b) r → z ≡ reachedAs (r .answer) (r .left .state .len) → Replayed src tree bytes b z (r .left .buffer)
-  replays h ez = record {
-    number = ez ∙ ap (λ (y : Result). reachedAs (y .answer) (y .left .state .len)) (replay-is h);
-    buffer = ap (λ (y : Result). y .left .buffer) (replay-is h);
-  }
+  pub replays : (bytes b : List ℕ) {s : code.State} → s ≡ encoded fresh → {w w′ q b′ : List ℕ} {z : ℕ} → runOf w ≡ startedRun (s .now) Done → Makes (scriptOf src tb) (callsIn bytes) (engine w (s .queue) b) (engine w′ q b′)
+      → z ≡ reachedAs (runOf w′ .answer) (runOf w′ .len) → Replayed src tree bytes b z b′
+  unfolding reads
+  replays bytes b {s} es {w} {w′} {q} {b′} er h ez =
+      let e : reads (engine w′ q b′) ≡ replayed src tree bytes b = h .ran .ran ∙ rw (tree-is, starts-fresh es w er (s .queue) b) in
+      record { number = ez ∙ ap (λ (y : Result). reachedAs (y .answer) (y .left .state .len)) e; buffer = ap (λ (y : Result). y .left .buffer) e }

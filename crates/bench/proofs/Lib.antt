@@ -1,1 +1,3 @@
+mod PackLaws
 mod HistoryLaws
+mod RepeatLaws

@@ -3,13 +3,14 @@ use entry::decode::Decoded;
 use entry::decode::decode;
 use meaning::answer::Refusal;
 use output::calls::make_call;
-use queue::run::Run;
+use queue::formatter::Formatter;
+use queue::formatter::refuse;
+use queue::ring::Queue;
 ghost use mathlib.Core.Path.{_≡_};
 ghost use Prim.Native.Nat.{_+_, _<_};
 ghost use lib.ListN.{length, take, drop, getD};
-ghost use Rattle.meaning.specs.Plan.{Ran};
 ghost use Rattle.entry.specs.Served.{asCall};
-ghost use Rattle.queue.specs.View.{scriptOf, resultOf};
+ghost use Rattle.queue.specs.Loans.{Made};
 ghost use Rattle.bench.specs.History.{bodyLen, askedAt, callsIn};
 
 // How many bytes stand behind a byte of kind: none behind an unknown one.
@@ -48,22 +49,17 @@ fn record_at(records: &[u8], at: usize) -> &[u8]
 fn asked(
     src: &[u8],
     table: &[u32],
-    queue: &mut [u32; 1024],
+    fmt: &mut Formatter,
+    queue: &mut Queue,
     out: &mut [u8],
-    run: Run,
     d: Decoded,
     at: usize,
-) -> Run
-    ensures { λ r. ⌜ Ran (scriptOf (now (src .entry)) (now (table .entry))) (askedAt at (asCall d)) (resultOf run (now (queue .entry)) (now (out .entry))) (resultOf r (now (queue .exit)) (now (out .exit))) ⌝ }
+)
+    ensures { λ _. ⌜ Made src table fmt queue out (askedAt at (asCall d)) ⌝ }
 {
     match d {
-        Decoded::Made(c) => make_call(src, table, queue, out, run, c),
-        Decoded::Unknown => {
-            if run.stopped() {
-                return run;
-            }
-            run.refused(Refusal::BadCall(at))
-        }
+        Decoded::Made(c) => make_call(src, table, fmt, queue, out, c),
+        Decoded::Unknown => refuse(fmt, Refusal::BadCall(at)),
     }
 }
 
@@ -71,19 +67,17 @@ fn asked(
 pub fn replay(
     src: &[u8],
     table: &[u32],
-    queue: &mut [u32; 1024],
+    fmt: &mut Formatter,
+    queue: &mut Queue,
     out: &mut [u8],
-    run: Run,
     records: &[u8],
-) -> Run
-    ensures { λ r. ⌜ Ran (scriptOf (now (src .entry)) (now (table .entry))) (callsIn (now (records .entry))) (resultOf run (now (queue .entry)) (now (out .entry))) (resultOf r (now (queue .exit)) (now (out .exit))) ⌝ }
+)
+    ensures { λ _. ⌜ Made src table fmt queue out (callsIn (now (records .entry))) ⌝ }
 {
-    let mut r = run;
     let mut at: usize = 0;
     while at < records.len() {
         let t = record_at(records, at);
-        r = asked(src, table, queue, out, r, decode(t), at);
+        asked(src, table, fmt, queue, out, decode(t), at);
         at += t.len();
     }
-    r
 }

@@ -8,7 +8,9 @@ use crate::pack::pack;
 use crate::pack::reached;
 use entry::state::fresh;
 use entry::state::started;
+use format::runs::layout;
 use meaning::answer::Answer;
+use tree::record::RecordNo;
 use tree::table::decode;
 use tree::table::first;
 ghost use mathlib.Core.Path.{_≡_};
@@ -18,6 +20,7 @@ ghost use Rattle.meaning.specs.Opening.{opening};
 ghost use Rattle.meaning.specs.Numbers.{seen};
 ghost use Rattle.bench.specs.Packed.{packed, found};
 ghost use Rattle.bench.specs.History.{Replayed};
+ghost use Rattle.bench.specs.Repeated.{Repeats};
 
 // The check of UTF-8.
 #[no_mangle]
@@ -53,13 +56,34 @@ pub extern "C" fn bench_calls(source: &[u8], tree: &[u8], out: &mut [u8], record
     let s = fresh();
     let now = s.now;
     let mut queue = s.queue;
-    let run = replay(
-        source,
-        first(&words, n),
-        &mut queue,
-        out,
-        started(now, Answer::Done),
-        records,
-    );
-    reached(run)
+    let mut fmt = started(now, Answer::Done);
+    replay(source, first(&words, n), &mut fmt, &mut queue, out, records);
+    reached(&fmt)
+}
+
+// Runs on a node, each on a fresh engine, so many times, over a tree that is decoded once; nothing that is lent is checked.
+#[no_mangle]
+pub extern "C" fn bench_runs(
+    source: &[u8],
+    tree: &[u8],
+    out: &mut [u8],
+    node: u32,
+    times: u32,
+) -> u64
+    ensures { λ r. ⌜ Repeats (now (source .entry)) (now (tree .entry)) (now (out .entry)) node times r (now (out .exit)) ⌝ }
+{
+    let mut words = [0u32; 32768];
+    let n = decode(tree, &mut words);
+    let s = fresh();
+    let now = s.now;
+    let mut queue = s.queue;
+    let mut fmt = started(now, Answer::Done);
+    let table = first(&words, n);
+    let mut i: u32 = 0;
+    while i < times {
+        fmt = started(now, Answer::Done);
+        layout(source, table, &mut fmt, &mut queue, out, RecordNo(node));
+        i += 1;
+    }
+    reached(&fmt)
 }

@@ -2,10 +2,14 @@
 use meaning::answer::Answer;
 use meaning::answer::number;
 use meaning::answer::place;
-use queue::run::Run;
+use queue::formatter::Formatter;
+use queue::formatter::answer;
+use queue::formatter::len;
+use queue::formatter::stopped;
 use text::utf8::Formed;
 ghost use mathlib.Core.Path.{_≡_};
 ghost use Rattle.meaning.specs.Numbers.{seen};
+ghost use Rattle.queue.specs.Words.{runOf};
 ghost use Rattle.bench.specs.Packed.{packed, found, reachedAs};
 
 // The number of a refusal above 32 bits of its place.
@@ -27,13 +31,12 @@ pub fn finding(f: Formed) -> u64
     }
 }
 
-// What a run came to: its refusal, or the output's length.
-pub fn reached(run: Run) -> u64
-    ensures { λ r. ⌜ r ≡ reachedAs (run .answer) (run .len) ⌝ }
+// What calls or runs came to: the refusal, or the output's length.
+pub fn reached(fmt: &Formatter) -> u64
+    ensures { λ r. ⌜ r ≡ reachedAs (runOf (now (fmt .entry)) .answer) (runOf (now (fmt .entry)) .len) ⌝ }
 {
-    let a = run.answer;
-    match a {
-        Answer::Done => run.len as u64 % 0x100000000,
-        Answer::Refused(_) => pack(a),
+    if stopped(fmt) {
+        return pack(answer(fmt));
     }
+    len(fmt) as u64 % 0x100000000
 }

@@ -1,32 +1,19 @@
--- Laws of items on lines of their own. Assumes nothing.
-use mathlib.Core.Path.{_≡_, refl, ap}
-use mathlib.Core.Bool.{Bool}
-use mathlib.Core.List.{List}
-use Prim.Native.Nat.{ℕ}
-use Rattle.tree.specs.declared.record.Record.{Record}
-use Rattle.tree.specs.declared.record.RecordNo.{RecordNo}
-use Rattle.meaning.specs.declared.call.Hint.the-variants.{Line}
-use Rattle.meaning.specs.declared.call.Call.the-variants.{Comments, Nl, Indent}
-use Rattle.meaning.specs.State.{Script}
-use Rattle.meaning.specs.World.{Result}
-use Rattle.meaning.specs.Plan.{Plan, make, _then_, Ran}
-use Rattle.meaning.proofs.Chain as chain
-use Rattle.steps.specs.declared.items.Items.{Items}
-use Rattle.steps.specs.Stream.{streamOf}
-use Rattle.steps.specs.Flow.{Flowed}
-use Rattle.steps.specs.Remaining.{fmt}
-use Rattle.steps.specs.Items.{Place, placeOf, turn}
-use Rattle.bodies.specs.Body.{lined, lineEnd, ended}
-use Rattle.steps.proofs.FlowLaws.{ran-as}
-use Rattle.steps.proofs.LoopLaws.{Falls}
-use Rattle.steps.proofs.ItemLaws.{pump-takes, plain-takes, turn-falls}
+-- Laws of items on lines of their own, and of a body by its kind. Assumes nothing.
+use Rattle.steps.proofs.Rules.{_≡_, sym, ap, _∙_, Bool, List, ℕ, Record, RecordNo, Line, Comments, Nl, Indent, Script, Plan, make, _then_, Engine}
+use Rattle.steps.proofs.Rules.{Makes, Stream, pump, Goes, putRemaining, _▹_, steady, pump-takes, plain-takes, put-leaves, _takes-then_, Each}
+use Rattle.queue.proofs.MadeLaws as made
+use Rattle.steps.specs.declared.remaining.Mark.the-variants.{Comma}
+use Rattle.bodies.specs.Body.{lined, lines, lineEnd}
 
--- ---- items on lines of their own
-
-pub line-falls : (rs : List Record) (want : ℕ → Bool) (rule : RecordNo → Plan) → Falls (λ (s : Place). s .rest) want (turn rs (lined rule) fmt)
+-- an item on a line of its own takes a record
+pub lines-take : (rs : List Record) (want : ℕ → Bool) (rule : RecordNo → Plan) → Each want (lined rs rule)
 unfolding lined
-line-falls rs want rule = turn-falls rs fmt (λ c. plain-takes (make (Nl 1) then make (Comments Line)) (pump-takes want rule))
+lines-take rs want rule = record { takes = λ any. plain-takes (make (Nl 1) then make (Comments Line)) (pump-takes want rule takes-then put-leaves rs Comma) }
 
-pub ended-by : {x : Script} (rs : List Record) (s : Items) {n : ℕ} {r t u v : Result} → Ran x (make (Comments Line)) r t → n ≡ lineEnd (s .count) → Ran x (make (Nl n)) t u → Ran x (make (Indent 255)) u v → Flowed x ended (placeOf rs s) r v (streamOf rs (s .p))
-unfolding ended
-ended-by rs s a e b c = record { ran = chain._▹_ a (chain._▹_ (ran-as (ap (λ (n : ℕ). make (Nl n)) e) b) c); at = refl }
+pub one-line : {x : Script} (rs : List Record) (rule : RecordNo → Plan) (any : Bool) {s s′ s″ : Stream} {e e′ e″ e‴ : Engine} → Makes x (make (Nl 1) then make (Comments Line)) e e′ → Goes x (pump rule) s e′ e″ s′ → Goes x (putRemaining rs Comma) s′ e″ e‴ s″ → Goes x (lined rs rule any) s e e‴ s″
+unfolding lined
+one-line rs rule any a b c = steady a ▹ b ▹ c
+
+pub lines-end : {x : Script} (any : Bool) {n : ℕ} {e e′ e″ e‴ : Engine} → Makes x (make (Comments Line)) e e′ → n ≡ lines any → Makes x (make (Nl n)) e′ e″ → Makes x (make (Indent 255)) e″ e‴ → Makes x (lineEnd any) e e‴
+unfolding lineEnd
+lines-end any a q b c = made._▹_ a (made._▹_ (made.made-as (ap (λ (n : ℕ). make (Nl n)) q) b) c)

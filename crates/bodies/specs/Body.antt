@@ -10,14 +10,12 @@ use Rattle.meaning.specs.declared.call.Literal.the-variants.{Braces}
 use Rattle.meaning.specs.declared.call.Call.the-variants.{Comments, Indent, Nl, Ws, Lit}
 use Rattle.meaning.specs.declared.answer.Refusal.the-variants.{WrongKind}
 use Rattle.meaning.specs.Plan.{Plan, nothing, make, refuse, _then_}
-use Rattle.steps.specs.declared.items.Few.{Few}
-use Rattle.steps.specs.declared.items.Few.the-variants.{Zero, One, Many}
-use Rattle.steps.specs.declared.remaining.Remaining.{Remaining}
-use Rattle.steps.specs.Stream.{Stream, nextIs}
-use Rattle.steps.specs.Flow.{Flow, flow, _▸_, plain, call, write, pump, expect, eat, is, parse}
-use Rattle.steps.specs.Remaining.{fmt}
-use Rattle.steps.specs.Items.{Place, items, list}
-use Rattle.steps.specs.Flow.{spaced}
+use Rattle.steps.specs.declared.remaining.Mark.the-variants.{Comma}
+use Rattle.steps.specs.Stream.{Stream}
+use Rattle.steps.specs.Flow.{Flow, _▸_, plain, call, write, spaced, pump, expect, eat, ifNext, is, parse}
+use Rattle.steps.specs.Seen.{each, lastly}
+use Rattle.steps.specs.Remaining.{putRemaining}
+use Rattle.steps.specs.Items.{list}
 
 -- a field's one node
 unfoldable pub field : List Record → RecordNo → Plan
@@ -28,22 +26,21 @@ tupleBody rs = expect rs Kind.OpenParenthesis write ▸ list rs (is rs Kind.Fiel
 
 -- ---- items on lines of their own
 
-unfoldable pub lined : (RecordNo → Plan) → Remaining → Stream → Flow Stream
-lined rule comma = plain (make (Nl 1) then make (Comments Line)) ▸ pump rule
+unfoldable pub lined : List Record → (RecordNo → Plan) → Bool → Stream → Flow Stream
+lined rs rule any = plain (make (Nl 1) then make (Comments Line)) ▸ pump rule ▸ putRemaining rs Comma
 
 -- a new line behind the last, but none where there was no item
-abbrev pub lineEnd : Few → ℕ
-lineEnd Zero = 0
-lineEnd One = 1
-lineEnd Many = 1
+abbrev pub lines : Bool → ℕ
+lines true = 1
+lines false = 0
 
 -- back out: the byte 255 is one level less
-unfoldable pub ended : Place → Flow Stream
-ended s = flow (make (Comments Line) then make (Nl (lineEnd (s .count))) then make (Indent 255)) (s .rest)
+unfoldable pub lineEnd : Bool → Plan
+lineEnd any = make (Comments Line) then make (Nl (lines any)) then make (Indent 255)
 
 unfoldable pub structBody : List Record → Stream → Flow Stream
 structBody rs =
-    expect rs Kind.OpenBrace write ▸ call (Indent 1) ▸ call (Comments Line) ▸ items rs (is rs Kind.Field) (lined (field rs)) fmt ▸ ended ▸ expect rs Kind.CloseBrace write
+    expect rs Kind.OpenBrace write ▸ call (Indent 1) ▸ call (Comments Line) ▸ each (is rs Kind.Field) (lined rs (field rs)) ▸ lastly lineEnd ▸ expect rs Kind.CloseBrace write
 
 -- ---- the body of a struct or of a variant
 
@@ -64,11 +61,11 @@ itemStruct rs = expect rs Kind.Struct write ▸ eat rs Kind.Ident spaced ▸ pum
 
 unfoldable pub variants : List Record → Stream → Flow Stream
 variants rs =
-    pump write ▸ call (Indent 1) ▸ items rs (is rs Kind.Variant) (lined (parse rs (variant rs))) fmt ▸ ended ▸ expect rs Kind.CloseBrace write
+    pump write ▸ call (Indent 1) ▸ each (is rs Kind.Variant) (lined rs (parse rs (variant rs))) ▸ lastly lineEnd ▸ expect rs Kind.CloseBrace write
 
 -- an enum without a brace gets both
 unfoldable pub enumBody : List Record → Stream → Flow Stream
-enumBody rs s = cond (nextIs (is rs Kind.OpenBrace) s) (variants rs s) (plain (make (Lit Braces)) s)
+enumBody rs = ifNext (is rs Kind.OpenBrace) (variants rs) (call (Lit Braces))
 
 unfoldable pub itemEnum : List Record → Stream → Flow Stream
 itemEnum rs = expect rs Kind.Enum write ▸ eat rs Kind.Ident spaced ▸ call Ws ▸ enumBody rs

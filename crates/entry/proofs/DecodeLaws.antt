@@ -1,14 +1,8 @@
 -- Call records, kind by kind. Assumes nothing.
-use mathlib.Core.Path.{_≡_, refl, sym, ap, _∙_}
-use mathlib.Core.List.{List, [], _∷_, map}
+use Rattle.text.proofs.Base.{_≡_, refl, sym, ap, _∙_, List, [], _∷_, ℕ, zero, suc, _+_, _*_, _≤_, _<_, arith, length, drop, getD, eqb, eq-eqb, ne-eqb}
+use mathlib.Core.List.{map}
 use mathlib.Core.Option.{Option, none, some}
-use Prim.Native.Nat.{ℕ, zero, suc, _+_, _*_, _≤_, _<_}
-use native.Mathlib.Omega.{arith}
-use lib.ListN.{length, drop, getD}
-use lib.Dec.{eqb}
-use borrow.Author.Tests.{eq-eqb, ne-eqb}
-use Rattle.tree.specs.declared.record.RecordNo.{RecordNo}
-use Rattle.tree.specs.Records.{four}
+use Rattle.tree.specs.{declared.record.RecordNo.RecordNo, Records.four}
 use Rattle.meaning.specs.declared.call.Call.{Call}
 use Rattle.meaning.specs.declared.call.Call.the-variants.{WriteOwned, WriteRaw, Ignore}
 use Rattle.meaning.specs.CallRecord.{Body, a-number, listed, a-byte, nothing, bodies, at, readBody, readAs, ofKind, decode}

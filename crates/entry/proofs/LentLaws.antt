@@ -1,29 +1,16 @@
 -- The checks on what is lent, and that they come before the steps. Assumes nothing.
-use mathlib.Core.Path.{_≡_, refl, sym, ap, _∙_}
-use mathlib.Core.Bool.{Bool, true, false, not, cond, _||_}
-use mathlib.Core.List.{List, [], _∷_}
+use Rattle.text.proofs.Base.{_≡_, refl, sym, ap, _∙_, Bool, true, false, not, cond, _||_, List, [], _∷_, ℕ, _<_, _≤_, arith, length, ltb, lt-ltb}
+use Rattle.text.proofs.Base.{le-ltb}
 use mathlib.Core.Option.{Option, none, some}
-use Prim.Native.Nat.{ℕ, _<_, _≤_}
-use native.Mathlib.Omega.{arith}
-use lib.ListN.{length}
-use lib.Dec.{ltb}
-use borrow.Author.Tests.{lt-ltb, le-ltb}
 use Rattle.text.specs.Chars.{inSource}
-use Rattle.meaning.specs.declared.call.Call.{Call}
-use Rattle.meaning.specs.declared.answer.Refusal.{Refusal}
-use Rattle.meaning.specs.declared.answer.Refusal.the-variants.{NoRoom, QueueFull, IndentOut, BadCall}
-use Rattle.meaning.specs.declared.answer.Answer.{Answer}
-use Rattle.meaning.specs.declared.answer.Answer.the-variants.{Done, Refused}
-use Rattle.meaning.specs.State.{Script, Comment, State}
-use Rattle.meaning.specs.Outcome.{Outcome, done, refused, refuseIf}
-use Rattle.meaning.specs.Calls.{step}
-use Rattle.meaning.specs.CallRecord.{decode, asked}
-use Rattle.meaning.specs.Lent.{anyOutside, lentState, lent, serve, serveRecord}
-use Rattle.meaning.specs.World.{World, world, capacity, Result, result, made, call, callRecord}
-use Rattle.meaning.specs.Plan.{make, refuse, goOn, exec}
-use Rattle.queue.specs.declared.run.Run.{Run}
-use Rattle.queue.specs.Run.{isRefused, answered}
-use Rattle.queue.specs.View.{ringAt, queueOf, view, resultOf}
+use Rattle.meaning.specs.{declared.call.Call.Call, declared.answer.Refusal.Refusal, declared.answer.Refusal.the-variants.NoRoom}
+use Rattle.meaning.specs.{declared.answer.Refusal.the-variants.QueueFull, declared.answer.Refusal.the-variants.IndentOut}
+use Rattle.meaning.specs.{declared.answer.Refusal.the-variants.BadCall, declared.answer.Answer.Answer, declared.answer.Answer.the-variants.Done}
+use Rattle.meaning.specs.{declared.answer.Answer.the-variants.Refused, State.Script, State.Comment, State.State, Outcome.Outcome, Outcome.done}
+use Rattle.meaning.specs.{Outcome.refused, Outcome.refuseIf, Calls.step, CallRecord.decode, CallRecord.asked, Lent.anyOutside, Lent.lentState}
+use Rattle.meaning.specs.{Lent.lent, Lent.serve, Lent.serveRecord, World.World, World.world, World.capacity, World.Result, World.result, World.made}
+use Rattle.meaning.specs.{World.call, World.callRecord, Plan.make, Plan.refuse, Plan.goOn, Plan.exec}
+use Rattle.queue.specs.{Run.Run, Run.isRefused, Run.answered, View.ringAt, View.queueOf, View.view, View.resultOf}
 use Rattle.entry.specs.Served.{checkedAnswer, lentAnswer, lentRun, askedPlan}
 use Rattle.queue.proofs.TabLaws.{length-tab}
 
@@ -34,6 +21,10 @@ outside-more src cs cs′ c e h = rw (e, h)
 
 pub outside-here : (src : List ℕ) (cs cs′ : List Comment) (c : Comment) → cs ≡ c ∷ cs′ → inSource src (c .span) ≡ false → true ≡ anyOutside src cs
 outside-here src cs cs′ c e h = rw (e, h)
+
+-- as the code asks, by the numbers that it read
+outside-at : (src q : List ℕ) {h n k m : ℕ} {t : Bool} → h ≡ k → n ≡ m → t ≡ anyOutside src (queueOf q h n) → t ≡ anyOutside src (queueOf q k m)
+outside-at src q eh en et = et ∙ rw (eh, en)
 
 -- ---- the code's tests, one by one
 
@@ -46,29 +37,29 @@ module _ (src q : List ℕ) (cap : ℕ) (r : Run) where
   unfolding lentRun
   lent-stopped h = ap (answered r) (same-answer (r .answer) _ _ _ r h)
 
-  module _ (open-yet : r .answer ≡ Done) where
-    pub lent-past : cap < r .len → answered r (Refused (NoRoom (r .len))) ≡ lentRun src q cap r
+  module _ (open-yet : r .answer ≡ Done) {len : ℕ} (el : len ≡ r .len) where
+    pub lent-past : {o : Run} {n : ℕ} → cap < len → n ≡ r .len → o ≡ answered r (Refused (NoRoom n)) → o ≡ lentRun src q cap r
     unfolding lentRun
-    lent-past h = ap (answered r) (rw (open-yet, lt-ltb cap (r .len) h))
+    lent-past h en e = e ∙ ap (answered r) (rw (en, open-yet, lt-ltb cap (r .len) (omega arith)))
 
-    module _ (fits : r .len ≤ cap) where
-      pub lent-many : 256 < r .count → answered r (Refused (QueueFull (record { 0 = 8192 }))) ≡ lentRun src q cap r
+    module _ (fits : len ≤ cap) {count : ℕ} (ec : count ≡ r .count) where
+      pub lent-many : {o : Run} → 256 < count → o ≡ answered r (Refused (QueueFull (record { 0 = 8192 }))) → o ≡ lentRun src q cap r
       unfolding lentRun
-      lent-many h = ap (answered r) (rw (open-yet, le-ltb cap (r .len) fits, lt-ltb 256 (r .count) h))
+      lent-many h e = e ∙ ap (answered r) (rw (open-yet, le-ltb cap (r .len) (omega arith), lt-ltb 256 (r .count) (omega arith)))
 
-      module _ (few : r .count ≤ 256) where
-        pub lent-outside : {t : Bool} → t ≡ anyOutside src (queueOf q (r .head) (r .count)) → t ≡ true → answered r (Refused (QueueFull (record { 0 = 8192 }))) ≡ lentRun src q cap r
+      module _ (few : count ≤ 256) {h n : ℕ} {t : Bool} (eh : h ≡ r .head) (en : n ≡ r .count) (et : t ≡ anyOutside src (queueOf q h n)) where
+        pub lent-outside : {o : Run} → t ≡ true → o ≡ answered r (Refused (QueueFull (record { 0 = 8192 }))) → o ≡ lentRun src q cap r
         unfolding lentRun
-        lent-outside e h = ap (answered r) (rw (open-yet, le-ltb cap (r .len) fits, le-ltb 256 (r .count) few, sym e ∙ h))
+        lent-outside y e = e ∙ ap (answered r) (rw (open-yet, le-ltb cap (r .len) (omega arith), le-ltb 256 (r .count) (omega arith), sym (outside-at src q eh en et) ∙ y))
 
-        module _ {t : Bool} (e : t ≡ anyOutside src (queueOf q (r .head) (r .count))) (inside : t ≡ false) where
-          pub lent-deep : 64 < r .indent → answered r (Refused (IndentOut (r .indent))) ≡ lentRun src q cap r
+        module _ (inside : t ≡ false) {deep : ℕ} (ed : deep ≡ r .indent) where
+          pub lent-deep : {o : Run} {m : ℕ} → 64 < deep → m ≡ r .indent → o ≡ answered r (Refused (IndentOut m)) → o ≡ lentRun src q cap r
           unfolding lentRun
-          lent-deep h = ap (answered r) (rw (open-yet, le-ltb cap (r .len) fits, le-ltb 256 (r .count) few, sym e ∙ inside, lt-ltb 64 (r .indent) h))
+          lent-deep y em e = e ∙ ap (answered r) (rw (em, open-yet, le-ltb cap (r .len) (omega arith), le-ltb 256 (r .count) (omega arith), sym (outside-at src q eh en et) ∙ inside, lt-ltb 64 (r .indent) (omega arith)))
 
-          pub lent-good : r .indent ≤ 64 → r ≡ lentRun src q cap r
+          pub lent-good : deep ≤ 64 → r ≡ lentRun src q cap r
           unfolding lentRun
-          lent-good h = ap (answered r) (rw (open-yet, le-ltb cap (r .len) fits, le-ltb 256 (r .count) few, sym e ∙ inside, le-ltb 64 (r .indent) h))
+          lent-good y = ap (answered r) (rw (open-yet, le-ltb cap (r .len) (omega arith), le-ltb 256 (r .count) (omega arith), sym (outside-at src q eh en et) ∙ inside, le-ltb 64 (r .indent) (omega arith)))
 
 -- ---- and then the steps
 

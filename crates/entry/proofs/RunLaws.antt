@@ -1,43 +1,25 @@
 -- Runs: a plan keeps every byte below the output's length, so that what the code leaves at a run's end is what the meaning's run leaves.
 -- Assumes nothing.
-use mathlib.Core.Path.{_≡_, refl, sym, ap, _∙_}
-use mathlib.Core.Bool.{Bool, true, false, _||_}
-use mathlib.Core.List.{List, [], _∷_, _++_}
-use Prim.Native.Nat.{ℕ, zero, suc, _+_, _-_, _*_, _≤_, _<_}
-use native.Mathlib.Omega.{arith}
-use lib.ListN.{length, take, set, replicate}
-use lib.Dec.{ltb}
+use Rattle.text.proofs.Base.{_≡_, refl, sym, ap, _∙_, Bool, true, false, _||_, List, [], _∷_, _++_, ℕ, zero, suc, _+_, _-_, _*_, _≤_, _<_, arith}
+use Rattle.text.proofs.Base.{length, take, ltb, drop}
+use lib.ListN.{set, replicate, length-replicate}
 use lib.Seq.{sets, take-set-le, take-all, drop-length, sets-eq}
-use lib.ListN.{drop, length-replicate}
 use mathlib.Core.List.{append-nil}
-use Rattle.tree.specs.declared.record.RecordNo.{RecordNo}
-use Rattle.tree.specs.Opening.{opened}
-use Rattle.tree.specs.declared.record.Record.{Record}
-use Rattle.tree.specs.Records.{records}
-use Rattle.tree.specs.Table.{treeOf, Decoded}
-use Rattle.meaning.specs.declared.answer.Refusal.{Refusal}
-use Rattle.meaning.specs.declared.call.Call.{Call}
-use Rattle.meaning.specs.declared.answer.Refusal.the-variants.{NoRoom, QueueFull, IndentOut, Finished}
-use Rattle.meaning.specs.declared.answer.Answer.{Answer}
-use Rattle.meaning.specs.declared.answer.Answer.the-variants.{Done, Refused}
-use Rattle.meaning.specs.State.{Script, State}
-use Rattle.meaning.specs.Pieces.{Piece, flat}
-use Rattle.meaning.specs.Outcome.{Outcome, done, refused, refuseIf}
-use Rattle.meaning.specs.Calls.{step}
-use Rattle.meaning.specs.World.{World, world, capacity, Result, result, made}
-use Rattle.meaning.specs.Plan.{Plan, nothing, make, refuse, _then_, exec, zeroed, putBack, answerOf, ready, run, Ran}
-use Rattle.meaning.specs.Lent.{anyOutside, lentState}
-use Rattle.meaning.specs.Opening.{answerTo, scriptIn}
+use Rattle.tree.specs.{declared.record.RecordNo.RecordNo, Opening.opened, declared.record.Record.Record, Records.records, Table.treeOf, Table.Decoded}
+use Rattle.meaning.specs.{declared.answer.Refusal.Refusal, declared.call.Call.Call, declared.answer.Refusal.the-variants.NoRoom}
+use Rattle.meaning.specs.{declared.answer.Refusal.the-variants.QueueFull, declared.answer.Refusal.the-variants.IndentOut}
+use Rattle.meaning.specs.{declared.answer.Refusal.the-variants.Finished, declared.answer.Answer.Answer, declared.answer.Answer.the-variants.Done}
+use Rattle.meaning.specs.{declared.answer.Answer.the-variants.Refused, State.Script, State.State, Pieces.Piece, Pieces.flat, Outcome.Outcome}
+use Rattle.meaning.specs.{Outcome.done, Outcome.refused, Outcome.refuseIf, Calls.step, World.World, World.world, World.capacity, World.Result}
+use Rattle.meaning.specs.{World.result, World.made, Plan.Plan, Plan.nothing, Plan.make, Plan.refuse, Plan._then_, Plan.exec, Plan.zeroed}
+use Rattle.meaning.specs.{Plan.putBack, Plan.answerOf, Plan.ready, Plan.run, Lent.anyOutside, Lent.lentState, Opening.answerTo, Opening.scriptIn}
 use Rattle.meaning.proofs.Step.{fair}
-use Rattle.meaning.proofs.Chain.{keeps}
-use Rattle.queue.specs.declared.run.Run.{Run}
+use Rattle.queue.proofs.{MadeLaws.keeps, TabLaws.length-tab}
 use Rattle.entry.specs.declared.state.State as code
-use Rattle.entry.specs.declared.state.Step.{Step}
-use Rattle.queue.specs.Run.{readyAnswer, readyRun}
-use Rattle.queue.specs.View.{ringAt, queueOf, view, resultOf, scriptOf}
-use Rattle.entry.specs.Served.{startedRun, stateOf, leftOf, checkedAnswer, lentAnswer, lentRun, Served}
-use Rattle.entry.specs.Ended.{endedBuffer, Ended, runLeft}
-use Rattle.queue.proofs.TabLaws.{length-tab}
+use Rattle.entry.specs.{declared.state.Step.Step, Served.startedRun, Served.stateOf, Served.leftOf, Served.checkedAnswer, Served.lentAnswer}
+use Rattle.entry.specs.{Served.lentRun, Served.Served, Ended.endedBuffer, Ended.Ended, Ended.runLeft}
+use Rattle.queue.specs.{Run.Run, Run.readyAnswer, Run.readyRun, View.ringAt, View.queueOf, View.view, View.resultOf, View.scriptOf, Words.runOf}
+use Rattle.queue.specs.{Words.Readied, Loans.engine, Loans.reads, Loans.Makes}
 use Rattle.entry.proofs.ServeLaws.{either-script, lent-refused}
 
 -- ---- bytes below the output's length stay
@@ -103,10 +85,6 @@ ready-at Done x r q b =
     rw n (four-tests (ltb (length b) (r .len)) (ltb 256 (r .count) || anyOutside (x .source) (queueOf q (r .head) (r .count))) (ltb 64 (r .indent)) (r .finished) r (view r q))
 ready-at (Refused e) x r q b = refl
 
-pub ready-is : (x : Script) (s : code.State) (b : List ℕ) (a : Answer) → readyRun (lentRun (x .source) (s .queue) (length b) (startedRun (s .now) a)) .answer ≡ ready a x (world (stateOf s) b)
-unfolding readyRun lentRun
-ready-is x s b a = ready-at a x (startedRun (s .now) a) (s .queue) b
-
 -- ---- a run's end
 
 -- by the answer of the plan, with the state t and the buffer b left
@@ -116,42 +94,39 @@ back s b₀ b Done t z b′ et el ez eb = record { step = ez; buffer = eb }
 back s b₀ b (Refused e) t z b′ et el ez eb = record { step = ez; buffer = eb ∙ zeroed-same (s .now .len) b b₀ et el }
 
 -- a rule's plan, begun as a run begins and ended by `ended`, is the meaning's run
-pub run-is : (opening : Answer) {x : Script} {p : Plan} {s : code.State} {b₀ : List ℕ} (go : Run) {r : Run} {q b : List ℕ} {z : Step} {b′ : List ℕ}
-    → go .answer ≡ ready opening x (world (stateOf s) b₀) → view go (s .queue) ≡ stateOf s → Ran x p (resultOf go (s .queue) b₀) (resultOf r q b) → Ended s r q b z b′ → Served s z b′ (run opening x (world (stateOf s) b₀) p)
+run-is : (opening : Answer) (x : Script) (p : Plan) {s : code.State} (b₀ : List ℕ) {r : Run} {q b : List ℕ} {z : Step} {b′ : List ℕ}
+    → resultOf r q b ≡ exec x p (result (ready opening x (world (stateOf s) b₀)) (world (stateOf s) b₀)) → length b ≡ length b₀ → Ended s r q b z b′ → Served s z b′ (run opening x (world (stateOf s) b₀) p)
 unfolding run
-run-is opening {x} {p} {s} {b₀} go {r} {q} {b} {z} {b′} ea ev h k =
-    let e : resultOf r q b ≡ exec x p (result (ready opening x (world (stateOf s) b₀)) (world (stateOf s) b₀)) = h .ran ∙ rw (ea, ev) in
+run-is opening x p {s} b₀ {r} {q} {b} {z} {b′} e l k =
     let f = exec-kept x p (s .now .len) (ready opening x (world (stateOf s) b₀)) (world (stateOf s) b₀) (omega arith) in
     let c : take (s .now .len) b ≡ take (s .now .len) b₀ = ap (λ (y : Result). take (s .now .len) (y .left .buffer)) e ∙ f .same in
-    rw (← e) (back s b₀ b (r .answer) (view r q) z b′ c (keeps h) (k .step) (k .buffer))
+    rw (← e) (back s b₀ b (r .answer) (view r q) z b′ c l (k .step) (k .buffer))
 
 -- the same over the lent bytes: the table is decoded, the checks are made, and the plan runs on what they leave
 module _ (src list words table : List ℕ) (n : RecordNo) (d : Decoded list words (n .0) table) (room : length words ≡ 32768) (s : code.State) (b₀ : List ℕ) {a₀ : Answer} (ea : a₀ ≡ answerTo (opened src list))
-    {r₀ r₁ go : Run} (e₀ : r₀ ≡ startedRun (s .now) a₀) (e₁ : r₁ ≡ lentRun src (s .queue) (length b₀) r₀) (eg : go ≡ readyRun r₁) where
+    {r₀ r₁ : Run} (w : List ℕ) {t : Bool} (e₀ : r₀ ≡ startedRun (s .now) a₀) (e₁ : r₁ ≡ lentRun src (s .queue) (length b₀) r₀) (eg : Readied r₁ (runOf w) t) where
   start : Run
   start = readyRun (lentRun src (s .queue) (length b₀) (startedRun (s .now) a₀))
 
-  go-is : go ≡ start
+  go-is : runOf w ≡ start
   unfolding start
-  go-is = eg ∙ ap readyRun (e₁ ∙ ap (lentRun src (s .queue) (length b₀)) e₀)
+  go-is = eg .is ∙ ap readyRun (e₁ ∙ ap (lentRun src (s .queue) (length b₀)) e₀)
 
   still-refused : (e : Refusal) → answerTo (opened src list) ≡ Refused e → start .answer ≡ Refused e
   unfolding start readyRun lentRun
   still-refused e h = rw (lent-refused a₀ (ltb (length b₀) (s .now .len)) (ltb 256 (s .now .count) || anyOutside src (queueOf (s .queue) 0 (s .now .count))) (ltb 64 (s .now .indent)) (startedRun (s .now) a₀) e (ea ∙ h))
 
-  same-view : view start (s .queue) ≡ stateOf s
+  -- begun so, it is where a run begins
+  begins : resultOf start (s .queue) b₀ ≡ result (ready a₀ (scriptIn src list) (world (stateOf s) b₀)) (world (stateOf s) b₀)
   unfolding start readyRun lentRun
-  same-view = refl
-
-  begins : start .answer ≡ ready a₀ (scriptIn src list) (world (stateOf s) b₀)
-  unfolding start
-  begins = ready-is (scriptIn src list) s b₀ a₀
+  begins = ap (λ (a : Answer). result a (world (stateOf s) b₀)) (ready-at a₀ (scriptIn src list) (startedRun (s .now) a₀) (s .queue) b₀)
 
   -- the plan may hang on the tree
-  pub serve-run : (p : List Record → Plan) {tb : List ℕ} {r : Run} {q b : List ℕ} {z : Step} {b′ : List ℕ} → tb ≡ take (n .0 * 4) table → Ran (scriptOf src tb) (p (treeOf tb)) (resultOf go (s .queue) b₀) (resultOf r q b) → Ended s r q b z b′
+  pub serve-run : (p : List Record → Plan) {tb w′ q b : List ℕ} {z : Step} {b′ : List ℕ} → tb ≡ take (n .0 * 4) table → Makes (scriptOf src tb) (p (treeOf tb)) (engine w (s .queue) b₀) (engine w′ q b) → Ended s (runOf w′) q b z b′
       → Served s z b′ (runLeft src list s b₀ (p (records list)))
-  serve-run p {tb} {r} {q} {b} {z} {b′} et h k =
-      let e : resultOf r q b ≡ exec (scriptIn src list) (p (records list)) (resultOf start (s .queue) b₀) =
-      h .ran ∙ ap (λ (g : Run). exec (scriptOf src tb) (p (treeOf tb)) (resultOf g (s .queue) b₀)) go-is
+  unfolding reads
+  serve-run p {tb} {w′} {q} {b} et h k =
+      let e : resultOf (runOf w′) q b ≡ exec (scriptIn src list) (p (records list)) (resultOf start (s .queue) b₀) =
+      h .ran .ran ∙ ap (λ (g : Run). exec (scriptOf src tb) (p (treeOf tb)) (resultOf g (s .queue) b₀)) go-is
       ∙ rw et (either-script src list words table n d room p (opened src list) refl (start .answer) (world (view start (s .queue)) b₀) still-refused) in
-      rw (← ea) (run-is a₀ start begins same-view (record { ran = e }) k)
+      rw (← ea) (run-is a₀ (scriptIn src list) (p (records list)) b₀ (e ∙ ap (exec (scriptIn src list) (p (records list))) begins) (keeps h) k)

@@ -1,12 +1,8 @@
 -- Any two outcomes that the promise of a public function allows coincide: `open`, `call` and `record`. Assumes nothing.
-use mathlib.Core.Path.{_≡_, sym, _∙_}
-use Prim.Native.Nat.{ℕ}
-use mathlib.Core.List.{List}
-use Rattle.meaning.specs.declared.call.Call.{Call}
-use Rattle.meaning.specs.World.{Result}
+use Rattle.text.proofs.Base.{_≡_, sym, _∙_, ℕ, List}
+use Rattle.meaning.specs.{declared.call.Call.Call, World.Result}
 use Rattle.entry.specs.declared.state.State as code
-use Rattle.entry.specs.declared.state.Step.{Step}
-use Rattle.entry.specs.Served.{Served, openLeft, callLeft, recordLeft}
+use Rattle.entry.specs.{declared.state.Step.Step, Served.Served, Served.openLeft, Served.callLeft, Served.recordLeft}
 
 -- what is handed back, and the buffer, whole
 pub record Same (z z′ : Step) (b b′ : List ℕ) : Type 0 where

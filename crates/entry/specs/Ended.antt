@@ -7,7 +7,7 @@ use Rattle.meaning.specs.declared.answer.Answer.the-variants.{Done, Refused}
 use Rattle.meaning.specs.World.{world, Result}
 use Rattle.meaning.specs.Plan.{Plan, zeroed, run}
 use Rattle.meaning.specs.Opening.{scriptIn, opening}
-use Rattle.queue.specs.declared.run.Run.{Run}
+use Rattle.queue.specs.Run.{Run}
 use Rattle.entry.specs.declared.state.State as code
 use Rattle.entry.specs.declared.state.Step.{Step}
 use Rattle.queue.specs.View.{view}

@@ -12,25 +12,24 @@ use Rattle.meaning.specs.declared.call.Call.the-variants.{WriteOwned, WriteRaw,
 use Rattle.meaning.specs.declared.answer.Refusal.the-variants.{NoRoom, QueueFull, IndentOut, BadCall}
 use Rattle.meaning.specs.declared.answer.Answer.{Answer}
 use Rattle.meaning.specs.declared.answer.Answer.the-variants.{Done, Refused}
-use Rattle.meaning.specs.State.{Script, State, fresh}
+use Rattle.meaning.specs.State.{State, fresh}
 use Rattle.meaning.specs.Opening.{scriptIn, opening}
 use Rattle.meaning.specs.Lent.{anyOutside}
 use Rattle.meaning.specs.World.{World, world, Result, call, callRecord}
-use Rattle.meaning.specs.Plan.{Plan, make, refuse, Ran}
-use Rattle.queue.specs.declared.run.Run.{Run}
+use Rattle.meaning.specs.Plan.{Plan, make, refuse}
 use Rattle.entry.specs.declared.state.Small.{Small}
 use Rattle.entry.specs.declared.state.State as code
 use Rattle.entry.specs.declared.state.Step.{Step}
 use Rattle.entry.specs.declared.decode.Decoded.{Decoded}
 use Rattle.entry.specs.declared.decode.Decoded.the-variants as decoded
-use Rattle.queue.specs.Run.{answered}
+use Rattle.queue.specs.Run.{Run, answered}
 use Rattle.queue.specs.View.{queueOf, view, slotsOf}
 
 -- ---- the state as a caller holds it
 
 abbrev pub startedRun : Small → Answer → Run
 startedRun s a =
-    record { answer = a; len = s .len; head = 0; count = s .count; lines = s .lines; «use_lines» = s .«use_lines»; ws = s .ws; indent = s .indent; finished = s .finished }
+    record { answer = a; len = s .len; head = 0; count = s .count; lines = s .lines; useLines = s .«use_lines»; ws = s .ws; indent = s .indent; finished = s .finished }
 
 -- what a lent state means
 abbrev pub stateOf : code.State → State
@@ -100,6 +99,3 @@ openLeft src tree = record { answer = opening src tree; state = encoded fresh }
 abbrev pub askedPlan : Option Call → Plan
 askedPlan none = refuse (BadCall 0)
 askedPlan (some c) = make c
-
-pub record Asked (x : Script) (d : Decoded) (r r′ : Result) : Type 0 where
-  pub ran : Ran x (askedPlan (asCall d)) r r′

@@ -1,8 +1,15 @@
 // The checks on what is lent, before all else: 1, 2, 3, 7 as at opening, then 4, 5, 6 on the state.
 use meaning::answer::Answer;
 use meaning::answer::Refusal;
+use queue::formatter::Formatter;
+use queue::formatter::count;
+use queue::formatter::head;
+use queue::formatter::indent;
+use queue::formatter::len;
+use queue::formatter::refused;
+use queue::formatter::stopped;
+use queue::ring::Queue;
 use queue::ring::comment_at;
-use queue::run::Run;
 use text::chars::in_source;
 use tree::open::Opening;
 use tree::record::RecordNo;
@@ -11,6 +18,7 @@ ghost use Rattle.tree.specs.Opening.{opened};
 ghost use Rattle.meaning.specs.Lent.{anyOutside};
 ghost use Rattle.meaning.specs.Opening.{answerTo};
 ghost use Rattle.queue.specs.View.{queueOf};
+ghost use Rattle.queue.specs.Words.{runOf};
 ghost use Rattle.entry.specs.Served.{lentRun};
 
 // What opening answers to a source and a tree.
@@ -28,7 +36,7 @@ pub fn opening(source: &[u8], tree: &[u8]) -> Answer
 }
 
 // Does a waiting span lie outside the source, or across a character?
-fn any_outside(src: &[u8], queue: &[u32; 1024], head: u32, count: u32) -> bool
+fn any_outside(src: &[u8], queue: &Queue, head: u32, count: u32) -> bool
     ensures { λ r. ⌜ r ≡ anyOutside (now (src .entry)) (queueOf (now (queue .entry)) head count) ⌝ }
 {
     let mut i: u32 = 0;
@@ -44,23 +52,25 @@ fn any_outside(src: &[u8], queue: &[u32; 1024], head: u32, count: u32) -> bool
 }
 
 // 4, 5, 6, where the buffer has `cap` bytes.
-pub fn lent(src: &[u8], queue: &[u32; 1024], cap: usize, run: Run) -> Run
-    ensures { λ r. ⌜ r ≡ lentRun (now (src .entry)) (now (queue .entry)) cap run ⌝ }
+pub fn lent(src: &[u8], fmt: &mut Formatter, queue: &Queue, cap: usize)
+    ensures { λ _. ⌜ runOf (now (fmt .exit)) ≡ lentRun (now (src .entry)) (now (queue .entry)) cap (runOf (now (fmt .entry))) ⌝ }
 {
-    if run.stopped() {
-        return run;
+    if stopped(fmt) {
+        return;
     }
-    if cap < run.len {
-        return run.refused(Refusal::NoRoom(run.len));
+    if cap < len(fmt) {
+        refused(fmt, Refusal::NoRoom(len(fmt)));
+        return;
     }
-    if 256 < run.count {
-        return run.refused(Refusal::QueueFull(RecordNo(8192)));
+    if 256 < count(fmt) {
+        refused(fmt, Refusal::QueueFull(RecordNo(8192)));
+        return;
     }
-    if any_outside(src, queue, run.head, run.count) {
-        return run.refused(Refusal::QueueFull(RecordNo(8192)));
+    if any_outside(src, queue, head(fmt), count(fmt)) {
+        refused(fmt, Refusal::QueueFull(RecordNo(8192)));
+        return;
     }
-    if 64 < run.indent {
-        return run.refused(Refusal::IndentOut(run.indent as u32));
+    if 64 < indent(fmt) {
+        refused(fmt, Refusal::IndentOut(indent(fmt) as u32));
     }
-    run
 }

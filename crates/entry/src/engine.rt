@@ -10,12 +10,14 @@ use crate::state::started;
 use meaning::answer::Refusal;
 use meaning::call::Call;
 use output::calls::make_call;
-use queue::run::Run;
+use queue::formatter::Formatter;
+use queue::formatter::refuse;
+use queue::ring::Queue;
 use tree::table::decode;
 use tree::table::first;
 ghost use mathlib.Core.Path.{_≡_};
-ghost use Rattle.queue.specs.View.{scriptOf, resultOf};
-ghost use Rattle.entry.specs.Served.{Served, callLeft, recordLeft, openLeft, Asked};
+ghost use Rattle.queue.specs.Loans.{Made};
+ghost use Rattle.entry.specs.Served.{Served, callLeft, recordLeft, openLeft, asCall, askedPlan};
 
 // A fresh engine, or refusal 1, 2, 3 or 7.
 pub fn open(source: &[u8], tree: &[u8]) -> Step
@@ -36,35 +38,26 @@ pub fn call(source: &[u8], tree: &[u8], out: &mut [u8], s: State, c: Call) -> St
     let n = decode(tree, &mut words);
     let mut queue = s.queue;
     let now = s.now;
-    let run = lent(
-        source,
-        &queue,
-        out.len(),
-        started(now, opening(source, tree)),
-    );
-    let r = make_call(source, first(&words, n), &mut queue, out, run, c);
-    left(s, r, &queue)
+    let mut fmt = started(now, opening(source, tree));
+    lent(source, &mut fmt, &queue, out.len());
+    make_call(source, first(&words, n), &mut fmt, &mut queue, out, c);
+    left(s, &fmt, &queue)
 }
 
 // The call of a decoded record, or refusal 12.
 fn asked(
     src: &[u8],
     table: &[u32],
-    queue: &mut [u32; 1024],
+    fmt: &mut Formatter,
+    queue: &mut Queue,
     out: &mut [u8],
-    run: Run,
     d: Decoded,
-) -> Run
-    ensures { λ r. ⌜ Asked (scriptOf (now (src .entry)) (now (table .entry))) d (resultOf run (now (queue .entry)) (now (out .entry))) (resultOf r (now (queue .exit)) (now (out .exit))) ⌝ }
+)
+    ensures { λ _. ⌜ Made src table fmt queue out (askedPlan (asCall d)) ⌝ }
 {
     match d {
-        Decoded::Made(c) => make_call(src, table, queue, out, run, c),
-        Decoded::Unknown => {
-            if run.stopped() {
-                return run;
-            }
-            run.refused(Refusal::BadCall(0))
-        }
+        Decoded::Made(c) => make_call(src, table, fmt, queue, out, c),
+        Decoded::Unknown => refuse(fmt, Refusal::BadCall(0)),
     }
 }
 
@@ -76,13 +69,9 @@ pub fn record(source: &[u8], tree: &[u8], out: &mut [u8], s: State, bytes: &[u8]
     let n = decode(tree, &mut words);
     let mut queue = s.queue;
     let now = s.now;
-    let run = lent(
-        source,
-        &queue,
-        out.len(),
-        started(now, opening(source, tree)),
-    );
+    let mut fmt = started(now, opening(source, tree));
+    lent(source, &mut fmt, &queue, out.len());
     let d = crate::decode::decode(bytes);
-    let r = asked(source, first(&words, n), &mut queue, out, run, d);
-    left(s, r, &queue)
+    asked(source, first(&words, n), &mut fmt, &mut queue, out, d);
+    left(s, &fmt, &queue)
 }

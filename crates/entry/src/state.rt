@@ -1,9 +1,24 @@
 // The engine's state as a caller holds it, and what a public function hands back.
 use meaning::answer::Answer;
+use meaning::answer::number;
+use meaning::answer::place;
+use queue::formatter::Formatter;
+use queue::formatter::answer;
+use queue::formatter::count;
+use queue::formatter::finished;
+use queue::formatter::head;
+use queue::formatter::indent;
+use queue::formatter::len;
+use queue::formatter::lines;
+use queue::formatter::spaced;
+use queue::formatter::stopped;
+use queue::formatter::use_lines;
+use queue::ring::Queue;
 use queue::ring::tidy;
-use queue::run::Run;
 ghost use mathlib.Core.Path.{_≡_};
 ghost use Rattle.meaning.specs.State.{fresh};
+ghost use Rattle.queue.specs.View.{flagOf};
+ghost use Rattle.queue.specs.Words.{runOf};
 ghost use Rattle.entry.specs.Served.{encoded, startedRun, Left};
 
 // The scalars; the queue has `count` comments.
@@ -45,41 +60,54 @@ pub fn fresh() -> State
     }
 }
 
-// The run that a call starts with, with what opening answers.
-pub fn started(now: Small, answer: Answer) -> Run
-    ensures { λ r. ⌜ r ≡ startedRun now answer ⌝ }
+fn flag(yes: bool) -> usize
+    ensures { λ r. ⌜ r ≡ flagOf yes ⌝ }
 {
-    Run {
-        answer,
-        len: now.len,
-        head: 0,
-        count: now.count,
-        lines: now.lines,
-        use_lines: now.use_lines,
-        ws: now.ws,
-        indent: now.indent,
-        finished: now.finished,
-    }
+    if yes { 1 } else { 0 }
 }
 
-// What is handed back: after a refusal the state that was lent, else the one that the run and the ring have.
-pub fn left(s: State, r: Run, queue: &[u32; 1024]) -> Step
-    ensures { λ z. ⌜ Left s r (now (queue .entry)) z ⌝ }
+// The engine's words that a call or a run starts with, and what opening answers.
+pub fn started(now: Small, answer: Answer) -> Formatter
+    ensures { λ r. ⌜ runOf r ≡ startedRun now answer ⌝ }
 {
-    let answer = r.answer;
-    if r.stopped() {
+    [
+        now.len,
+        now.lines as usize,
+        flag(now.use_lines),
+        flag(now.ws),
+        now.indent as usize,
+        flag(now.finished),
+        now.count as usize,
+        0,
+        number(answer) as usize,
+        place(answer),
+        0,
+        0,
+        0,
+        0,
+        0,
+        0,
+    ]
+}
+
+// What is handed back: after a refusal the state that was lent, else the one that the words and the ring have.
+pub fn left(s: State, fmt: &Formatter, queue: &Queue) -> Step
+    ensures { λ z. ⌜ Left s (runOf (now (fmt .entry))) (now (queue .entry)) z ⌝ }
+{
+    let answer = answer(fmt);
+    if stopped(fmt) {
         return Step { answer, state: s };
     }
     let now = Small {
-        len: r.len,
-        count: r.count,
-        lines: r.lines,
-        use_lines: r.use_lines,
-        ws: r.ws,
-        indent: r.indent,
-        finished: r.finished,
+        len: len(fmt),
+        count: count(fmt),
+        lines: lines(fmt),
+        use_lines: use_lines(fmt),
+        ws: spaced(fmt),
+        indent: indent(fmt),
+        finished: finished(fmt),
     };
-    let queue = tidy(queue, r.head, r.count);
+    let queue = tidy(queue, head(fmt), count(fmt));
     let state = State { now, queue };
     Step { answer, state }
 }

@@ -1,14 +1,7 @@
 -- The width question, asked of a count that stops one above its limit. Assumes nothing.
-use mathlib.Core.Path.{_≡_, refl, ap, _∙_}
-use mathlib.Core.Bool.{Bool, true, false}
-use mathlib.Core.List.{List}
-use Prim.Native.Nat.{ℕ, suc, min}
-use native.Mathlib.Omega.{arith}
-use lib.Dec.{ltb}
-use borrow.Author.Tests.{ltb-true, ltb-false, lt-ltb, le-ltb}
-use Rattle.text.specs.declared.span.Span.{Span}
-use Rattle.text.specs.Span.{textOf}
-use Rattle.text.specs.Chars.{chars, dark, counted}
+use Rattle.text.proofs.Base.{min, ltb-true, ltb-false, lt-ltb, le-ltb}
+use Rattle.steps.proofs.Rules.{_≡_, refl, ap, _∙_, Bool, true, false, List, ℕ, suc, arith, ltb}
+use Rattle.text.specs.{declared.span.Span.Span, Span.textOf, Chars.chars, Chars.dark, Chars.counted}
 use Rattle.meaning.specs.AtLeast.{isAtLeast}
 
 -- n is passed by d exactly where it is passed by the smaller of n + 1 and d

@@ -1,12 +1,7 @@
 -- The buffer at a run's end, by its answer. Assumes nothing.
-use mathlib.Core.Path.{_≡_, refl, sym, _∙_}
-use mathlib.Core.Bool.{Bool, true, false}
-use mathlib.Core.List.{List}
-use Prim.Native.Nat.{ℕ}
-use native.Mathlib.Omega.{arith}
-use Rattle.meaning.specs.declared.answer.Answer.{Answer}
-use Rattle.meaning.specs.declared.answer.Answer.the-variants.{Done, Refused}
-use Rattle.meaning.specs.Plan.{zeroed}
+use Rattle.steps.proofs.Rules.{_≡_, refl, sym, _∙_, Bool, true, false, List, ℕ, arith}
+use Rattle.meaning.specs.{declared.answer.Answer.Answer, declared.answer.Answer.the-variants.Done, declared.answer.Answer.the-variants.Refused}
+use Rattle.meaning.specs.{Plan.zeroed}
 use Rattle.queue.specs.Run.{isRefused}
 use Rattle.entry.specs.Ended.{endedBuffer}
 

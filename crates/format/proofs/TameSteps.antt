@@ -1,24 +1,13 @@
 -- The steps of the rules refuse by record numbers only, in the order of their definitions. Assumes nothing.
-use Prim.Native.Nat.{ℕ, zero, suc}
-use mathlib.Core.Bool.{Bool, true, false, cond, _||_}
-use mathlib.Core.List.{List, [], _∷_}
-use lib.ListN.{length}
-use Rattle.tree.specs.declared.record.Record.{Record}
-use Rattle.tree.specs.declared.record.RecordNo.{RecordNo}
-use Rattle.tree.specs.declared.cursor.Found.{Found}
-use Rattle.tree.specs.declared.cursor.Found.the-variants.{At, None}
-use Rattle.meaning.specs.declared.call.Call.{Call}
-use Rattle.meaning.specs.declared.answer.Refusal.the-variants.{TreeDeep, WrongKind}
-use Rattle.meaning.specs.Plan.{Plan, nothing, make, refuse, _then_}
-use Rattle.steps.specs.declared.remaining.Mark.{Mark}
-use Rattle.steps.specs.declared.remaining.Mark.the-variants.{Comma}
-use Rattle.steps.specs.declared.remaining.Remaining.{Remaining}
-use Rattle.steps.specs.declared.remaining.Remaining.the-variants.{Fresh, Missing, Present}
-use Rattle.steps.specs.Stream.{Stream, recordsOf, isByte, nextIs, takeIf, takeAny}
-use Rattle.steps.specs.Flow.{Flow, flow, _▸_, plain, write, spaced, onFound, pump, expectByte, eatByte, leftIn, parse}
-use Rattle.steps.specs.Loop.{turns, loop}
-use Rattle.steps.specs.Remaining.{fmt, ignore, says, isPresent, writeIf, writeOnlyIf, isMark, second, restIf, remaining}
-use Rattle.steps.specs.Items.{Place, item, rested, behind, turn, begin, items, separated, listed, suffix, closed, list}
+use Rattle.steps.proofs.Rules.{ℕ, zero, suc, Bool, true, false, cond, _||_, List, [], _∷_, length, Record, RecordNo, TreeDeep, WrongKind, Plan}
+use Rattle.steps.proofs.Rules.{nothing, make, refuse, _then_, Stream, recordsOf, isByte, nextIs, takeIf, takeAny, Flow, flow, _▸_, plain, write}
+use Rattle.steps.proofs.Rules.{spaced, pump, expectByte, ifNext, parse, Remaining, fmt, ignore, says, putRemaining, Place, turn, listed, suffix, list}
+use Rattle.tree.specs.{declared.cursor.Found.Found, declared.cursor.Found.the-variants.At, declared.cursor.Found.the-variants.None}
+use Rattle.meaning.specs.{declared.call.Call.Call, declared.answer.Refusal.the-variants.NoRule, declared.answer.Refusal.the-variants.NoNode}
+use Rattle.steps.specs.{declared.remaining.Mark.the-variants.Comma, declared.remaining.Mark.Mark, Flow.onFound, Flow.eatByte, Flow.leftIn, Loop.turns}
+use Rattle.steps.specs.{Loop.loop, Seen.Seen, Seen.noneYet, Seen.another, Seen.each, Seen.lastly, Remaining.Fresh, Remaining.Missing}
+use Rattle.steps.specs.{Remaining.Present, Remaining.isMark, Remaining.second, Remaining.restIf, Remaining.remaining, Items.item, Items.rested}
+use Rattle.steps.specs.{Items.behind, Items.begin, Items.items, Items.separated, Items.closing, Items.closed}
 use Rattle.format.proofs.Tame.{Tame}
 
 -- ---- plans: `Tame` under a name, from which the plan can be read
@@ -42,6 +31,12 @@ wrong = record { tame = tt }
 
 pub deep : {k : RecordNo} → IsTame (refuse (TreeDeep k))
 deep = record { tame = tt }
+
+pub no-rule : {k : RecordNo} → IsTame (refuse (NoRule k))
+no-rule = record { tame = tt }
+
+pub no-node : {k : RecordNo} → IsTame (refuse (NoNode k))
+no-node = record { tame = tt }
 
 pub wrote : Each write
 wrote k = made
@@ -77,12 +72,20 @@ called c = plain-tame made
 pub still : {S : Type 0} → Tamed {S = S} {T = S} (flow nothing)
 still = record { at = λ s. idle }
 
-pub either : {S T : Type 0} (t : S → Bool) {f g : S → Flow T} → Tamed f → Tamed g → Tamed (λ (s : S). cond (t s) (f s) (g s))
+either : {S T : Type 0} (t : S → Bool) {f g : S → Flow T} → Tamed f → Tamed g → Tamed (λ (s : S). cond (t s) (f s) (g s))
 either {S = S} t {f} {g} a b = record { at = λ s. go s (t s) }
   where
     go : (s : S) (t : Bool) → IsTame (cond t (f s) (g s) .plan)
     go s true = a .at s
     go s false = b .at s
+
+pub next-tame : {T : Type 0} (want : ℕ → Bool) {f g : Stream → Flow T} → Tamed f → Tamed g → Tamed (ifNext want f g)
+unfolding ifNext
+next-tame want a b = either (nextIs want) a b
+
+pub cond-tamed : {S T : Type 0} (t : Bool) {f g : S → Flow T} → Tamed f → Tamed g → Tamed (cond t f g)
+cond-tamed true a b = a
+cond-tamed false a b = b
 
 -- ---- taking the next record
 
@@ -124,6 +127,16 @@ module _ {S : Type 0} (at : S → Stream) (want : ℕ → Bool) {turn : S → Fl
   unfolding loop
   looped = record { at = λ s. turns-tame (length (at s .left)) .at s }
 
+-- ---- loops that ask whether there was an item
+
+pub each-tame : (want : ℕ → Bool) {f : Bool → Stream → Flow Stream} → ((any : Bool) → Tamed (f any)) → Tamed (each want f)
+unfolding each noneYet another
+each-tame want a = record { at = λ s. idle } ▹ looped (λ (s : Seen). s .rest) want (record { at = λ s. a (s .any) .at (s .rest) })
+
+pub lastly-tame : {g : Bool → Plan} → Each g → Tamed (lastly g)
+unfolding lastly
+lastly-tame a = record { at = λ s. a (s .any) }
+
 -- ---- a token that may be missing
 
 pub fmt-tame : Each fmt
@@ -138,14 +151,6 @@ ignore-tame Fresh = idle
 ignore-tame (Missing m) = idle
 ignore-tame (Present k) = made
 
-pub write-if-tame : (needed : Bool) (r : Remaining) → IsTame (writeIf needed r)
-unfolding writeIf
-write-if-tame needed r = cond-tame (needed || isPresent r) (fmt-tame r) idle
-
-pub write-only-tame : (wanted : Bool) (r : Remaining) → IsTame (writeOnlyIf wanted r)
-unfolding writeOnlyIf
-write-only-tame wanted r = cond-tame wanted (fmt-tame r) (ignore-tame r)
-
 rest-tame : (rs : List Record) (m : Mark) (o : Found) (s : Stream) → IsTame (restIf rs m o s .plan)
 unfolding restIf second
 rest-tame rs m (At k) s = cond-tame (nextIs (isMark rs m) s) wrong idle
@@ -154,6 +159,10 @@ rest-tame rs m None s = idle
 pub remaining-tame : (rs : List Record) (m : Mark) (s : Stream) → IsTame (remaining rs m s .plan)
 unfolding remaining
 remaining-tame rs m s = let t = takeIf (isMark rs m) s in rest-tame rs m (t .found) (t .rest)
+
+pub put-tame : (rs : List Record) (m : Mark) → Tamed (putRemaining rs m)
+unfolding putRemaining
+put-tame rs m = record { at = λ s. remaining-tame rs m s and fmt-tame (remaining rs m s .token) }
 
 -- ---- lists
 
@@ -182,7 +191,7 @@ pub suffix-tame : Each suffix
 suffix-tame c = made
 
 closed-tame : Tamed closed
-unfolding closed
+unfolding closed closing
 closed-tame = record { at = λ s. ignore-tame (s .comma) and cond-tame (says (s .comma)) idle made }
 
 module _ {rule : RecordNo → Plan} (a : Each rule) where
@@ -193,3 +202,6 @@ module _ {rule : RecordNo → Plan} (a : Each rule) where
   pub list-tame : (rs : List Record) (want : ℕ → Bool) → Tamed (list rs want rule)
   unfolding list
   list-tame rs want = items-tame rs listed-tame suffix-tame want ▹ closed-tame
+
+-- what the rules are made of
+pub ruleset tame = (idle, made, wrong, deep, no-rule, no-node, _and_, cond-tame, _▹_, plain-tame, cond-tamed, next-tame, pumped, expected, eaten, parsed, looped, each-tame, lastly-tame, fmt-tame, ignore-tame, put-tame, items-tame, listed-tame, list-tame)

@@ -3,10 +3,11 @@ use Prim.Native.Nat.{ℕ}
 use mathlib.Core.Bool.{cond}
 use mathlib.Core.List.{List}
 use lib.ListN.{length}
-use lib.Dec.{leb}
+use lib.Dec.{eqb, leb}
 use Rattle.tree.specs.declared.record.Record.{Record}
 use Rattle.tree.specs.declared.record.RecordNo.{RecordNo}
 use Rattle.kinds.specs.declared.Kind.{Kind}
+use Rattle.kinds.specs.Facts.{byteOf}
 use Rattle.meaning.specs.declared.answer.Refusal.the-variants.{NoRule, NoNode}
 use Rattle.meaning.specs.Opening.{scriptIn}
 use Rattle.meaning.specs.World.{Result}
@@ -21,53 +22,34 @@ use Rattle.patterns.specs.Pattern.{pat, patArray, patTuple, patObject, fnArgs}
 use Rattle.bodies.specs.Body.{tupleBody, structBody, variant, itemStruct, itemEnum}
 use Rattle.uses.specs.Use.{usePath, useGroup, itemUse}
 
--- ---- items: their modifiers, then the rule
+-- ---- an item: its modifiers, then the rule of its kind
 
-unfoldable pub structItem : List Record → Stream → Flow Stream
-structItem rs = modifiers rs ▸ itemStruct rs
+unfoldable pub itemRule : List Record → ℕ → Stream → Flow Stream
+itemRule rs kind = cond (eqb kind (byteOf Kind.ItemStruct)) (itemStruct rs) (cond (eqb kind (byteOf Kind.ItemEnum)) (itemEnum rs) (itemUse rs))
 
-unfoldable pub enumItem : List Record → Stream → Flow Stream
-enumItem rs = modifiers rs ▸ itemEnum rs
-
-unfoldable pub useItem : List Record → Stream → Flow Stream
-useItem rs = modifiers rs ▸ itemUse rs
+unfoldable pub item : List Record → Kind → RecordNo → Plan
+item rs kind = parse rs (modifiers rs ▸ itemRule rs (byteOf kind))
 
 -- ---- by the node's kind; a kind without a rule is refusal 9
-
-unfoldable pub useRule : List Record → RecordNo → Plan
-useRule rs k =
-    cond (is rs Kind.ItemUsePath (k .0)) (parse rs (usePath rs 64) k)
-    (cond (is rs Kind.ItemUseGroup (k .0)) (useGroup rs 64 k)
-    (refuse (NoRule k)))
-
-unfoldable pub itemRule : List Record → RecordNo → Plan
-itemRule rs k =
-    cond (is rs Kind.ItemStruct (k .0)) (parse rs (structItem rs) k)
-    (cond (is rs Kind.ItemEnum (k .0)) (parse rs (enumItem rs) k)
-    (cond (is rs Kind.ItemUse (k .0)) (parse rs (useItem rs) k)
-    (useRule rs k)))
-
-unfoldable pub bodyRule : List Record → RecordNo → Plan
-bodyRule rs k =
-    cond (is rs Kind.FnArgs (k .0)) (parse rs (fnArgs rs) k)
-    (cond (is rs Kind.TupleBody (k .0)) (parse rs (tupleBody rs) k)
-    (cond (is rs Kind.StructBody (k .0)) (parse rs (structBody rs) k)
-    (cond (is rs Kind.Variant (k .0)) (parse rs (variant rs) k)
-    (itemRule rs k))))
-
-unfoldable pub patternRule : List Record → RecordNo → Plan
-patternRule rs k =
-    cond (is rs Kind.Pat (k .0)) (pat rs 64 k)
-    (cond (is rs Kind.PatArray (k .0)) (parse rs (patArray rs (pat rs 64)) k)
-    (cond (is rs Kind.PatTuple (k .0)) (parse rs (patTuple rs (pat rs 64)) k)
-    (cond (is rs Kind.PatObject (k .0)) (parse rs (patObject rs (pat rs 64)) k)
-    (bodyRule rs k))))
 
 unfoldable pub rule : List Record → RecordNo → Plan
 rule rs k =
     cond (is rs Kind.Path (k .0)) (path rs 64 k)
     (cond (is rs Kind.PathGenerics (k .0)) (pathGenerics rs 64 k)
-    (patternRule rs k))
+    (cond (is rs Kind.Pat (k .0)) (pat rs 64 k)
+    (cond (is rs Kind.PatArray (k .0)) (parse rs (patArray rs (pat rs 64)) k)
+    (cond (is rs Kind.PatTuple (k .0)) (parse rs (patTuple rs (pat rs 64)) k)
+    (cond (is rs Kind.PatObject (k .0)) (parse rs (patObject rs (pat rs 64)) k)
+    (cond (is rs Kind.FnArgs (k .0)) (parse rs (fnArgs rs) k)
+    (cond (is rs Kind.TupleBody (k .0)) (parse rs (tupleBody rs) k)
+    (cond (is rs Kind.StructBody (k .0)) (parse rs (structBody rs) k)
+    (cond (is rs Kind.Variant (k .0)) (parse rs (variant rs) k)
+    (cond (is rs Kind.ItemStruct (k .0)) (item rs Kind.ItemStruct k)
+    (cond (is rs Kind.ItemEnum (k .0)) (item rs Kind.ItemEnum k)
+    (cond (is rs Kind.ItemUse (k .0)) (item rs Kind.ItemUse k)
+    (cond (is rs Kind.ItemUsePath (k .0)) (parse rs (usePath rs 64) k)
+    (cond (is rs Kind.ItemUseGroup (k .0)) (useGroup rs 64 k)
+    (refuse (NoRule k))))))))))))))))
 
 -- ---- a run
 

@@ -2,10 +2,13 @@
 use entry::state::State;
 use entry::state::Step;
 use entry::state::left;
+use queue::formatter::Formatter;
+use queue::formatter::stopped;
+use queue::ring::Queue;
 use queue::room::fill;
-use queue::run::Run;
 ghost use mathlib.Core.Path.{_≡_};
 ghost use Rattle.meaning.specs.Plan.{zeroed};
+ghost use Rattle.queue.specs.Words.{runOf};
 ghost use Rattle.entry.specs.Ended.{Ended};
 
 // Zero from place n to the buffer's end.
@@ -19,12 +22,12 @@ fn zero_from(out: &mut [u8], n: usize)
 }
 
 // The end of a run that began from the state s.
-pub fn ended(out: &mut [u8], s: State, r: Run, queue: &[u32; 1024]) -> Step
-    ensures { λ z. ⌜ Ended s r (now (queue .entry)) (now (out .entry)) z (now (out .exit)) ⌝ }
+pub fn ended(out: &mut [u8], s: State, fmt: &Formatter, queue: &Queue) -> Step
+    ensures { λ z. ⌜ Ended s (runOf (now (fmt .entry))) (now (queue .entry)) (now (out .entry)) z (now (out .exit)) ⌝ }
 {
-    if r.stopped() {
+    if stopped(fmt) {
         zero_from(out, s.now.len);
-        return left(s, r, queue);
+        return left(s, fmt, queue);
     }
-    left(s, r, queue)
+    left(s, fmt, queue)
 }

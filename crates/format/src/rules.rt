@@ -1,141 +1,101 @@
 // The rule that a run takes, by its node's kind. A rule that follows the tree down is given 64 levels, and no opened tree has more.
-use crate::items::args_node;
-use crate::items::enum_item;
-use crate::items::struct_item;
-use crate::items::use_item;
-use bodies::body::struct_node;
-use bodies::body::tuple_node;
-use bodies::body::variant_node;
+use bodies::body::item_enum;
+use bodies::body::item_struct;
+use bodies::body::variant;
+use bodies::fields::struct_body;
+use bodies::fields::tuple_body;
 use kinds::bytes;
 use meaning::answer::Refusal;
+use paths::modifier::modifiers;
 use paths::path::path;
 use paths::path::path_generics;
+use patterns::fn_args::fn_args;
 use patterns::pat::pat;
 use patterns::pat::pat_array;
 use patterns::pat::pat_object;
 use patterns::pat::pat_tuple;
-use queue::run::Run;
-use steps::stream::is_kind;
-use steps::stream::refuse;
+use queue::formatter::Formatter;
+use queue::formatter::refuse;
+use queue::ring::Queue;
+use steps::stream::Stream;
+use steps::stream::left_over;
+use steps::stream::records_of;
 use tree::record::RecordNo;
+use tree::table::kind_at;
+use uses::item_use::item_use;
 use uses::item_use::item_use_group;
 use uses::item_use::use_node;
-ghost use Rattle.meaning.specs.Plan.{Ran};
-ghost use Rattle.queue.specs.View.{scriptOf, resultOf};
-ghost use Rattle.tree.specs.Table.{treeOf};
-ghost use Rattle.format.specs.Rules.{useRule, itemRule, bodyRule, patternRule, rule};
+ghost use Rattle.queue.specs.Loans.{Made};
+ghost use Rattle.steps.specs.Stream.{tree};
+ghost use Rattle.steps.specs.Flow.{Walked, _▸_, parse};
+ghost use Rattle.paths.specs.Attribute.{modifiers};
+ghost use Rattle.format.specs.Rules.{itemRule, rule};
 
-// Uses within an item; a kind that no rule is named for is refusal 9.
-fn use_rule(
-    src: &[u8],
-    table: &[u32],
-    queue: &mut [u32; 1024],
-    out: &mut [u8],
-    run: Run,
-    k: RecordNo,
-) -> Run
-    ensures { λ r. ⌜ Ran (scriptOf (now (src .entry)) (now (table .entry))) (useRule (treeOf (now (table .entry))) k) (resultOf run (now (queue .entry)) (now (out .entry))) (resultOf r (now (queue .exit)) (now (out .exit))) ⌝ }
-{
-    if is_kind(table, k, bytes::ITEM_USE_PATH) {
-        return use_node(src, table, queue, out, run, k, 64);
-    }
-    if is_kind(table, k, bytes::ITEM_USE_GROUP) {
-        return item_use_group(src, table, queue, out, run, k, 64);
-    }
-    refuse(run, Refusal::NoRule(k))
-}
-
-// Items.
+// The rule of an item's kind.
 fn item_rule(
     src: &[u8],
     table: &[u32],
-    queue: &mut [u32; 1024],
+    fmt: &mut Formatter,
+    queue: &mut Queue,
     out: &mut [u8],
-    run: Run,
-    k: RecordNo,
-) -> Run
-    ensures { λ r. ⌜ Ran (scriptOf (now (src .entry)) (now (table .entry))) (itemRule (treeOf (now (table .entry))) k) (resultOf run (now (queue .entry)) (now (out .entry))) (resultOf r (now (queue .exit)) (now (out .exit))) ⌝ }
+    p: &mut Stream,
+    kind: u8,
+)
+    ensures { λ _. ⌜ Walked src table fmt queue out p (itemRule (tree table) kind) ⌝ }
 {
-    if is_kind(table, k, bytes::ITEM_STRUCT) {
-        return struct_item(src, table, queue, out, run, k);
+    match kind {
+        bytes::ITEM_STRUCT => item_struct(src, table, fmt, queue, out, p),
+        bytes::ITEM_ENUM => item_enum(src, table, fmt, queue, out, p),
+        _ => item_use(src, table, fmt, queue, out, p),
     }
-    if is_kind(table, k, bytes::ITEM_ENUM) {
-        return enum_item(src, table, queue, out, run, k);
-    }
-    if is_kind(table, k, bytes::ITEM_USE) {
-        return use_item(src, table, queue, out, run, k);
-    }
-    use_rule(src, table, queue, out, run, k)
 }
 
-// What stands within items.
-fn body_rule(
+// An item: its modifiers, then the rule of its kind.
+fn item(
     src: &[u8],
     table: &[u32],
-    queue: &mut [u32; 1024],
+    fmt: &mut Formatter,
+    queue: &mut Queue,
     out: &mut [u8],
-    run: Run,
     k: RecordNo,
-) -> Run
-    ensures { λ r. ⌜ Ran (scriptOf (now (src .entry)) (now (table .entry))) (bodyRule (treeOf (now (table .entry))) k) (resultOf run (now (queue .entry)) (now (out .entry))) (resultOf r (now (queue .exit)) (now (out .exit))) ⌝ }
+    kind: u8,
+)
+    ensures { λ _. ⌜ Made src table fmt queue out (parse (tree table) (modifiers (tree table) ▸ itemRule (tree table) kind) k) ⌝ }
 {
-    if is_kind(table, k, bytes::FN_ARGS) {
-        return args_node(src, table, queue, out, run, k);
-    }
-    if is_kind(table, k, bytes::TUPLE_BODY) {
-        return tuple_node(src, table, queue, out, run, k);
-    }
-    if is_kind(table, k, bytes::STRUCT_BODY) {
-        return struct_node(src, table, queue, out, run, k);
-    }
-    if is_kind(table, k, bytes::VARIANT) {
-        return variant_node(src, table, queue, out, run, k);
-    }
-    item_rule(src, table, queue, out, run, k)
+    let mut p = records_of(table, k);
+    modifiers(src, table, fmt, queue, out, &mut p);
+    item_rule(src, table, fmt, queue, out, &mut p, kind);
+    left_over(table, fmt, &p);
 }
 
-// Patterns.
-fn pattern_rule(
-    src: &[u8],
-    table: &[u32],
-    queue: &mut [u32; 1024],
-    out: &mut [u8],
-    run: Run,
-    k: RecordNo,
-) -> Run
-    ensures { λ r. ⌜ Ran (scriptOf (now (src .entry)) (now (table .entry))) (patternRule (treeOf (now (table .entry))) k) (resultOf run (now (queue .entry)) (now (out .entry))) (resultOf r (now (queue .exit)) (now (out .exit))) ⌝ }
-{
-    if is_kind(table, k, bytes::PAT) {
-        return pat(src, table, queue, out, run, k, 64);
-    }
-    if is_kind(table, k, bytes::PAT_ARRAY) {
-        return pat_array(src, table, queue, out, run, k, 64);
-    }
-    if is_kind(table, k, bytes::PAT_TUPLE) {
-        return pat_tuple(src, table, queue, out, run, k, 64);
-    }
-    if is_kind(table, k, bytes::PAT_OBJECT) {
-        return pat_object(src, table, queue, out, run, k, 64);
-    }
-    body_rule(src, table, queue, out, run, k)
-}
-
-// The rule of a node's kind: paths first.
+// A kind for which no rule is named is refusal 9.
 pub fn rule(
     src: &[u8],
     table: &[u32],
-    queue: &mut [u32; 1024],
+    fmt: &mut Formatter,
+    queue: &mut Queue,
     out: &mut [u8],
-    run: Run,
     k: RecordNo,
-) -> Run
-    ensures { λ r. ⌜ Ran (scriptOf (now (src .entry)) (now (table .entry))) (rule (treeOf (now (table .entry))) k) (resultOf run (now (queue .entry)) (now (out .entry))) (resultOf r (now (queue .exit)) (now (out .exit))) ⌝ }
+)
+    ensures { λ _. ⌜ Made src table fmt queue out (rule (tree table) k) ⌝ }
 {
-    if is_kind(table, k, bytes::PATH) {
-        return path(src, table, queue, out, run, k, 64);
+    let kind = kind_at(table, k);
+    match kind {
+        bytes::PATH => path(src, table, fmt, queue, out, k, 64),
+        bytes::PATH_GENERICS => path_generics(src, table, fmt, queue, out, k, 64),
+        bytes::PAT => pat(src, table, fmt, queue, out, k, 64),
+        bytes::PAT_ARRAY => pat_array(src, table, fmt, queue, out, k, 64),
+        bytes::PAT_TUPLE => pat_tuple(src, table, fmt, queue, out, k, 64),
+        bytes::PAT_OBJECT => pat_object(src, table, fmt, queue, out, k, 64),
+        bytes::FN_ARGS => fn_args(src, table, fmt, queue, out, k),
+        bytes::TUPLE_BODY => tuple_body(src, table, fmt, queue, out, k),
+        bytes::STRUCT_BODY => struct_body(src, table, fmt, queue, out, k),
+        bytes::VARIANT => variant(src, table, fmt, queue, out, k),
+        bytes::ITEM_STRUCT => item(src, table, fmt, queue, out, k, kind),
+        bytes::ITEM_ENUM => item(src, table, fmt, queue, out, k, kind),
+        bytes::ITEM_USE => item(src, table, fmt, queue, out, k, kind),
+        bytes::ITEM_USE_PATH => use_node(src, table, fmt, queue, out, k, 64),
+        bytes::ITEM_USE_GROUP => item_use_group(src, table, fmt, queue, out, k, 64),
+        _ => refuse(fmt, Refusal::NoRule(k)),
     }
-    if is_kind(table, k, bytes::PATH_GENERICS) {
-        return path_generics(src, table, queue, out, run, k, 64);
-    }
-    pattern_rule(src, table, queue, out, run, k)
 }

@@ -7,33 +7,35 @@ use entry::state::State;
 use entry::state::Step;
 use entry::state::started;
 use meaning::answer::Refusal;
-use queue::run::Run;
-use steps::stream::refuse;
+use queue::formatter::Formatter;
+use queue::formatter::refuse;
+use queue::formatter::stops;
+use queue::ring::Queue;
 use tree::record::RecordNo;
 use tree::table::decode;
 use tree::table::first;
 use tree::table::size;
-ghost use Rattle.meaning.specs.Plan.{Ran};
-ghost use Rattle.queue.specs.View.{scriptOf, resultOf};
+ghost use Rattle.queue.specs.Loans.{Made};
+ghost use Rattle.steps.specs.Stream.{tree};
 ghost use Rattle.entry.specs.Served.{Served};
-ghost use Rattle.tree.specs.Table.{treeOf};
 ghost use Rattle.format.specs.Rules.{layout, laidOut};
 
 // Refusal 11, then the rule of the node.
-fn layout(
+pub fn layout(
     src: &[u8],
     table: &[u32],
-    queue: &mut [u32; 1024],
+    fmt: &mut Formatter,
+    queue: &mut Queue,
     out: &mut [u8],
-    run: Run,
     k: RecordNo,
-) -> Run
-    ensures { λ r. ⌜ Ran (scriptOf (now (src .entry)) (now (table .entry))) (layout (treeOf (now (table .entry))) k) (resultOf run (now (queue .entry)) (now (out .entry))) (resultOf r (now (queue .exit)) (now (out .exit))) ⌝ }
+)
+    ensures { λ _. ⌜ Made src table fmt queue out (layout (tree table) k) ⌝ }
 {
     if size(table).0 <= k.0 {
-        return refuse(run, Refusal::NoNode(k));
+        refuse(fmt, Refusal::NoNode(k));
+        return;
     }
-    rule(src, table, queue, out, run, k)
+    rule(src, table, fmt, queue, out, k);
 }
 
 // A run on node k, over what is lent anew.
@@ -44,13 +46,9 @@ pub fn run(source: &[u8], tree: &[u8], out: &mut [u8], s: State, k: RecordNo) ->
     let n = decode(tree, &mut words);
     let mut queue = s.queue;
     let now = s.now;
-    let run = lent(
-        source,
-        &queue,
-        out.len(),
-        started(now, opening(source, tree)),
-    );
-    let go = run.ready();
-    let r = layout(source, first(&words, n), &mut queue, out, go, k);
-    ended(out, s, r, &queue)
+    let mut fmt = started(now, opening(source, tree));
+    lent(source, &mut fmt, &queue, out.len());
+    stops(&mut fmt);
+    layout(source, first(&words, n), &mut fmt, &mut queue, out, k);
+    ended(out, s, &fmt, &queue)
 }

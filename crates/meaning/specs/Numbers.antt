@@ -1,5 +1,8 @@
 -- Numbers an operator sees: of each refusal its number and the place returned. Assumes nothing.
-use Prim.Native.Nat.{ℕ}
+use mathlib.Core.Path.{_≡_}
+use Prim.Native.Nat.{ℕ, zero, suc, _%_}
+use mathlib.Core.List.{List, [], _∷_}
+use lib.ListN.{getD}
 use Rattle.meaning.specs.declared.answer.Refusal.{Refusal}
 use Rattle.meaning.specs.declared.answer.Refusal.the-variants.{SourceLong, SourceIll, TreeBad, NoRoom, QueueFull, IndentOut, TreeDeep, WrongKind, NoRule, Finished, NoNode, BadCall}
 use Rattle.meaning.specs.declared.answer.Answer.{Answer}
@@ -31,3 +34,21 @@ refusalSeen (BadCall p) = 12 from p
 abbrev pub seen : Answer → Seen
 seen Done = 0 from 0
 seen (Refused r) = refusalSeen r
+
+-- ---- read back
+
+-- the twelve refusals at place p, in the order of their numbers; k is the place as a byte of the source or a record
+abbrev pub refusalsAt : ℕ → ℕ → List Refusal
+refusalsAt p k =
+    SourceLong ∷ SourceIll (record { 0 = k }) ∷ TreeBad (record { 0 = k }) ∷ NoRoom p ∷ QueueFull (record { 0 = k }) ∷ IndentOut k
+    ∷ TreeDeep (record { 0 = k }) ∷ WrongKind (record { 0 = k }) ∷ NoRule (record { 0 = k }) ∷ Finished p ∷ NoNode (record { 0 = k }) ∷ BadCall p ∷ []
+
+-- the answer of a number and a place
+abbrev pub answerBy : ℕ → ℕ → Answer
+answerBy zero p = Done
+answerBy (suc n) p = Refused (getD (refusalsAt p (p % 0x1_0000_0000)) n (BadCall p))
+
+-- p is the place of the answer, and with its number it tells the answer again
+pub record Placed (a : Answer) (p : ℕ) : Type 0 where
+  pub is : p ≡ seen a .place
+  pub back : answerBy (seen a .number) p ≡ a

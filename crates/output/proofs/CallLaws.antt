@@ -1,47 +1,38 @@
 -- The calls: what the code leaves is what `act` says. Assumes nothing.
-use mathlib.Core.Path.{_≡_, refl, sym, ap, _∙_}
-use mathlib.Core.List.{List, [], _∷_, _++_, append-nil}
-use mathlib.Core.Bool.{Bool, true, false, cond, not, _&&_}
-use Prim.Native.Nat.{ℕ, zero, suc, _+_, _-_, _<_, _≤_}
-use native.Mathlib.Omega.{arith}
-use lib.ListN.{length, length-append}
+use Rattle.text.proofs.Base.{_≡_, refl, sym, ap, _∙_, List, [], _∷_, _++_, Bool, true, false, cond, not, _&&_, ℕ, zero, suc, _+_, _-_, _<_, _≤_}
+use Rattle.text.proofs.Base.{arith, length, ltb, lt-ltb, le-ltb}
+use mathlib.Core.List.{append-nil}
+use lib.ListN.{length-append}
 use lib.Seq.{sets}
-use lib.Dec.{ltb}
-use borrow.Author.Tests.{lt-ltb, le-ltb}
 use Rattle.text.specs.Span.{textOf}
-use Rattle.tree.specs.declared.record.RecordNo.{RecordNo}
-use Rattle.tree.specs.Table.{treeOf, nodeOf}
+use Rattle.tree.specs.{declared.record.RecordNo.RecordNo, Table.treeOf, Table.nodeOf}
 use Rattle.tree.specs.Cursor as cursor
-use Rattle.meaning.specs.declared.call.Hint.{Hint}
-use Rattle.meaning.specs.declared.call.Hint.the-variants.{Line, Prefix, Suffix, Infix}
-use Rattle.meaning.specs.declared.call.Literal.{Literal}
-use Rattle.meaning.specs.declared.call.Literal.the-variants.{Braces, Bars, Parens, OpenBrace, CloseBrace, Comma, Semicolon, Colon}
-use Rattle.meaning.specs.declared.call.Call.{Call}
-use Rattle.meaning.specs.declared.call.Call.the-variants.{WriteOwned, WriteRaw, Ignore, Lit, Comments, Indent, Nl, Ws, FlushWhitespace, FlushPrefixComments, Finish}
-use Rattle.meaning.specs.declared.answer.Refusal.{Refusal}
-use Rattle.meaning.specs.declared.answer.Refusal.the-variants.{NoRoom, IndentOut}
-use Rattle.meaning.specs.declared.answer.Answer.{Answer}
-use Rattle.meaning.specs.declared.answer.Answer.the-variants.{Done, Refused}
-use Rattle.meaning.specs.State.{Script, Comment, State, withLen, withLines, withUseLines, withWs, closed}
-use Rattle.meaning.specs.Pieces.{Piece, gap, text, flat, Emit, emit}
-use Rattle.meaning.specs.Outcome.{Outcome, done, refused, refuseIf}
-use Rattle.meaning.specs.Collect.{Collected, full, got, onGot, orElse, collect, collected, entriesFrom, gather, nodeText, behind}
-use Rattle.meaning.specs.Flush.{flush, flushed, flushGap}
-use Rattle.meaning.specs.Release.{lineRelease}
-use Rattle.meaning.specs.Calls.{litText, signed, act, settle, writeNode, no-node, a-node, namedBy}
-use Rattle.meaning.specs.World.{World, world, capacity, Result, result, made}
-use Rattle.meaning.specs.Plan.{make, Ran}
-use Rattle.queue.specs.declared.run.Run.{Run}
-use Rattle.queue.specs.declared.room.Gap.{Gap}
-use Rattle.queue.specs.declared.release.Way.{Way}
-use Rattle.queue.specs.declared.release.Way.the-variants.{Lines, Spaces}
-use Rattle.queue.specs.Run.{isRefused, answered, movedRun, hintedRun, indentedRun, closedRun, flushedRun, readyRun, presentRun}
-use Rattle.queue.specs.Passes.{releaseOf, wayOf}
-use Rattle.queue.specs.Wording.{litSpan}
-use Rattle.queue.specs.View.{queueOf, view, resultOf, scriptOf, gapBytes}
-use Rattle.queue.specs.Parts.{steps, settles, Released, PutText, onAnswer, Gathered, Beside, WroteNode}
+use Rattle.meaning.specs.{declared.call.Hint.Hint, declared.call.Hint.the-variants.Line, declared.call.Hint.the-variants.Prefix}
+use Rattle.meaning.specs.{declared.call.Hint.the-variants.Suffix, declared.call.Hint.the-variants.Infix, declared.call.Literal.Literal}
+use Rattle.meaning.specs.{declared.call.Literal.the-variants.Braces, declared.call.Literal.the-variants.Bars}
+use Rattle.meaning.specs.{declared.call.Literal.the-variants.Parens, declared.call.Literal.the-variants.OpenBrace}
+use Rattle.meaning.specs.{declared.call.Literal.the-variants.CloseBrace, declared.call.Literal.the-variants.Comma}
+use Rattle.meaning.specs.{declared.call.Literal.the-variants.Semicolon, declared.call.Literal.the-variants.Colon, declared.call.Call.Call}
+use Rattle.meaning.specs.{declared.call.Call.the-variants.WriteOwned, declared.call.Call.the-variants.WriteRaw}
+use Rattle.meaning.specs.{declared.call.Call.the-variants.Ignore, declared.call.Call.the-variants.Lit, declared.call.Call.the-variants.Comments}
+use Rattle.meaning.specs.{declared.call.Call.the-variants.Indent, declared.call.Call.the-variants.Nl, declared.call.Call.the-variants.Ws}
+use Rattle.meaning.specs.{declared.call.Call.the-variants.FlushWhitespace, declared.call.Call.the-variants.FlushPrefixComments}
+use Rattle.meaning.specs.{declared.call.Call.the-variants.Finish, declared.answer.Refusal.Refusal, declared.answer.Refusal.the-variants.NoRoom}
+use Rattle.meaning.specs.{declared.answer.Refusal.the-variants.IndentOut, declared.answer.Answer.Answer, declared.answer.Answer.the-variants.Done}
+use Rattle.meaning.specs.{declared.answer.Answer.the-variants.Refused, State.Script, State.Comment, State.State, State.withLen, State.withLines}
+use Rattle.meaning.specs.{State.withUseLines, State.withWs, State.closed, Pieces.Piece, Pieces.gap, Pieces.text, Pieces.flat, Pieces.Emit}
+use Rattle.meaning.specs.{Pieces.emit, Outcome.Outcome, Outcome.done, Outcome.refused, Outcome.refuseIf, Collect.Collected, Collect.full, Collect.got}
+use Rattle.meaning.specs.{Collect.onGot, Collect.orElse, Collect.collect, Collect.collected, Collect.entriesFrom, Collect.gather, Collect.nodeText}
+use Rattle.meaning.specs.{Collect.behind, Flush.flush, Flush.flushed, Flush.flushGap, Release.lineRelease, Calls.litText, Calls.signed, Calls.act}
+use Rattle.meaning.specs.{Calls.settle, Calls.writeNode, Calls.no-node, Calls.a-node, Calls.namedBy, World.World, World.world, World.capacity}
+use Rattle.meaning.specs.{World.Result, World.result, World.made, Plan.make}
+use Rattle.queue.specs.{Run.Run, Run.isRefused, Run.answered, Run.movedRun, Run.hintedRun, Run.indentedRun, Run.closedRun, Run.flushedRun}
+use Rattle.queue.specs.{Run.readyRun, Run.presentRun, declared.room.Gap.Gap, declared.release.Way.Way, declared.release.Way.the-variants.Lines}
+use Rattle.queue.specs.{declared.release.Way.the-variants.Spaces, Passes.releaseOf, Passes.wayOf, Wording.litSpan, View.queueOf, View.view}
+use Rattle.queue.specs.{View.resultOf, View.scriptOf, View.gapBytes, View.Laid, Words.runOf, Words.Readied, Words.Present, Loans.engine, Loans.reads}
+use Rattle.queue.specs.{Loans.Makes, Parts.steps, Parts.settles, Parts.LetsOut, Parts.PutText, Parts.onAnswer, Parts.Gathered, Parts.Collects}
 use Rattle.queue.proofs.WriteLaws.{laid-length}
-use Rattle.queue.proofs.StepLaws.{ready-steps, present-call, open-steps, stopped-steps, thenState, then-stopped, then-open, settle-then}
+use Rattle.queue.proofs.StepLaws.{goes, ready-steps, present-call, open-steps, stopped-steps, thenState, then-stopped, then-open, settle-then}
 
 -- the steps of a call, from an engine that is open or refused already
 pub record Acted (x : Script) (c : Call) (run : Run) (q b : List ℕ) (r : Run) (q′ b′ : List ℕ) : Type 0 where
@@ -51,11 +42,14 @@ pub acted-stopped : {x : Script} {c : Call} {run : Run} (q : List ℕ) {b : List
 acted-stopped {x} {c} {run} q {b} h = record { out = stopped-steps _ (run .answer) (world (view run q) b) h }
 
 -- 10, or 10 and 11, in front
-pub ran-ready : {x : Script} {c : Call} (run : Run) {go : Run} {q b : List ℕ} {r : Run} {q′ b′ : List ℕ} → go ≡ readyRun run → namedBy c ≡ no-node → Acted x c go q b r q′ b′ → Ran x (make c) (resultOf run q b) (resultOf r q′ b′)
-ran-ready {x} {c} run {go} {q} {b} e n a = record { ran = a .out ∙ ap (λ (g : Run). steps (λ cap s. act x cap s c) (resultOf g q b)) e ∙ sym (ready-steps x c run q b n) }
+module _ {x : Script} {c : Call} {w q b w′ q′ b′ : List ℕ} {go : Run} {t : Bool} where
+  pub made-ready : Readied (runOf w) go t → namedBy c ≡ no-node → Acted x c go q b (runOf w′) q′ b′ → Makes x (make c) (engine w q b) (engine w′ q′ b′)
+  unfolding reads
+  made-ready e n a = record { ran = record { ran = a .out ∙ ap (λ (g : Run). steps (λ cap s. act x cap s c) (resultOf g q b)) (e .is) ∙ sym (ready-steps x c (runOf w) q b n) } }
 
-pub ran-present : {x : Script} {c : Call} (run : Run) {go : Run} {q b : List ℕ} {r : Run} {q′ b′ : List ℕ} {k : RecordNo} → go ≡ presentRun (x .tree) k (readyRun run) → namedBy c ≡ a-node k → Acted x c go q b r q′ b′ → Ran x (make c) (resultOf run q b) (resultOf r q′ b′)
-ran-present {x} {c} run {go} {q} {b} {r} {q′} {b′} {k} e n a = record { ran = a .out ∙ ap (λ (g : Run). steps (λ cap s. act x cap s c) (resultOf g q b)) e ∙ sym (present-call x c run q b k n) }
+  pub made-present : {k : RecordNo} → Present (x .tree) k (runOf w) go t → namedBy c ≡ a-node k → Acted x c go q b (runOf w′) q′ b′ → Makes x (make c) (engine w q b) (engine w′ q′ b′)
+  unfolding reads
+  made-present {k} e n a = record { ran = record { ran = a .out ∙ ap (λ (g : Run). steps (λ cap s. act x cap s c) (resultOf g q b)) (e .is) ∙ sym (present-call x c (runOf w) q b k n) } }
 
 -- ---- only the bytes of the pieces count
 
@@ -84,7 +78,7 @@ comments-are x a w Prefix = refl
 comments-are x a w Suffix = refl
 comments-are x a w Infix = refl
 
-pub by-comments : {x : Script} {h : Hint} {way : Way} {q : List ℕ} {run : Run} {b : List ℕ} {r : Run} {b′ : List ℕ} → way ≡ wayOf h → Released (x .source) way q run b r b′ → Acted x (Comments h) run q b r q b′
+pub by-comments : {x : Script} {h : Hint} {way : Way} {q : List ℕ} {run : Run} {b : List ℕ} {r : Run} {b′ : List ℕ} → way ≡ wayOf h → LetsOut (x .source) way q run b r b′ → Acted x (Comments h) run q b r q b′
 by-comments {x} {h} {way} {q} {run} {b} e g = record { out = g .out ∙ rw e (comments-are x (run .answer) (world (view run q) b) h) }
 
 abbrev offer : ℕ → State → State
@@ -107,7 +101,7 @@ pub by-finish : (x : Script) → ByRelease x Finish (Lines false) closed
 unfolding act
 by-finish x = record { is = λ a w. sym (settle-then (lineRelease (x .source) false) closed a w) }
 
-module _ {x : Script} {c : Call} {way : Way} {f : State → State} (by : ByRelease x c way f) {q : List ℕ} {run : Run} {b : List ℕ} {r : Run} {b′ : List ℕ} (h : Released (x .source) way q run b r b′) where
+module _ {x : Script} {c : Call} {way : Way} {f : State → State} (by : ByRelease x c way f) {q : List ℕ} {run : Run} {b : List ℕ} {r : Run} {b′ : List ℕ} (h : LetsOut (x .source) way q run b r b′) where
   after : thenState f (resultOf r q b′) ≡ steps (λ cap s. act x cap s c) (resultOf run q b)
   after = ap (thenState f) (h .out) ∙ by .is (run .answer) (world (view run q) b)
 
@@ -143,10 +137,9 @@ module _ (t : List ℕ) (run : Run) (g : Gap) (eg : gapBytes g ≡ flushGap (vie
     unfolding refuseIf
     put-past h e = record { out = λ q. rw e (sym (open-steps _ (run .answer) (world (view run q) b) open-yet ∙ rw (put-long, h))) }
 
-    pub put-done : {o f : Run} {b′ : List ℕ} → ltb (length b) (run .len + (g .lines + g .spaces) + length t) ≡ false → f ≡ flushedRun preserve run → o ≡ movedRun f (run .len + (g .lines + g .spaces) + length t)
-        → b′ ≡ sets b (run .len) (gapBytes g ++ t) → PutText preserve t run b o b′
+    pub put-done : {o f : Run} {to : ℕ} {b′ : List ℕ} → ltb (length b) (run .len + (g .lines + g .spaces) + length t) ≡ false → f ≡ flushedRun preserve run → o ≡ movedRun f to → Laid b (run .len) g t to b′ → PutText preserve t run b o b′
     unfolding refuseIf flushedRun
-    put-done h ef e h′ = record { out = λ q. rw (e, ef) (sym (open-steps _ (run .answer) (world (view run q) b) open-yet ∙ rw (put-long, h, put-flat, ← h′, open-yet))) }
+    put-done h ef e l = record { out = λ q. rw (e, ef, l .end) (sym (open-steps _ (run .answer) (world (view run q) b) open-yet ∙ rw (put-long, h, put-flat, ← l .bytes, open-yet))) }
 
 abbrev literals : List ℕ
 literals = 0x7B ∷ 0x7D ∷ 0x7C ∷ 0x7C ∷ 0x28 ∷ 0x29 ∷ 0x7B ∷ 0x7D ∷ 0x2C ∷ 0x3B ∷ 0x3A ∷ []
@@ -199,7 +192,7 @@ module _ {x : Script} (q : List ℕ) {run : Run} {b : List ℕ} {d : ℕ} (open-
 
 -- the state that was, on the ring as it is now
 pub waiting : (run : Run) (q q′ : List ℕ) → queueOf q′ (run .head) (run .count) ≡ queueOf q (run .head) (run .count) → view run q′ ≡ view run q
-waiting run q q′ e = ap (λ (x : List Comment). record { len = run .len; queue = x; lines = run .lines; useLines = run .«use_lines»; ws = run .ws; indent = run .indent; finished = run .finished }) e
+waiting run q q′ e = ap (λ (x : List Comment). record { len = run .len; queue = x; lines = run .lines; useLines = run .useLines; ws = run .ws; indent = run .indent; finished = run .finished }) e
 
 -- where the code starts to collect behind node k
 pub behind-is : (x : Script) (k : RecordNo) (s : State) (next : State → Outcome) → gather x (cursor.behind (x .tree) (k .0)) s next ≡ gather x (behind x k) s next
@@ -227,3 +220,11 @@ module _ (x : Script) (k : RecordNo) (run r : Run) (q q′ b : List ℕ) (i : �
 
   pub ignore-done : r .answer ≡ Done → Acted x (Ignore k) run q b r q′ b
   ignore-done h = record { out = rw h (sym (ignored ∙ rw h)) }
+
+-- collecting with the newlines that the state has
+pub as-it-is : {x : Script} {i l : ℕ} {run : Run} {q : List ℕ} {stop : Bool} {r : Run} {q′ : List ℕ} → l ≡ run .lines → Collects x i l run q stop r q′ → Gathered x i run q r q′
+as-it-is e c = rw e at (c .gathered)
+
+pub ignore-is : (x : Script) (k : RecordNo) {run r : Run} {q q′ : List ℕ} (b : List ℕ) {i l : ℕ} (stop : Bool) → run .answer ≡ Done → i ≡ cursor.behind (x .tree) (k .0) → l ≡ run .lines → Collects x i l run q stop r q′ → Acted x (Ignore k) run q b r q′ b
+ignore-is x k b true a ei el c = ignore-full x k _ _ _ _ b _ ei (as-it-is el c) a (sym (c .told a)) (c .full refl)
+ignore-is x k b false a ei el c = ignore-done x k _ _ _ _ b _ ei (as-it-is el c) a (goes (c .told a) refl)

@@ -1,38 +1,22 @@
 -- The calls that write and collect, or collect and write. Assumes nothing.
-use mathlib.Core.Path.{_≡_, refl, sym, ap, _∙_}
-use mathlib.Core.List.{List, [], _∷_, _++_, append-nil}
-use mathlib.Core.Bool.{Bool, true, false}
-use Prim.Native.Nat.{ℕ, _+_, _<_, _≤_}
-use native.Mathlib.Omega.{arith}
-use lib.ListN.{length}
-use lib.Seq.{sets}
-use lib.Dec.{ltb}
+use Rattle.text.proofs.Base.{_≡_, refl, sym, ap, _∙_, List, [], _∷_, _++_, Bool, true, false, ℕ, _+_, _<_, _≤_, arith, length, ltb}
+use mathlib.Core.List.{append-nil}
+use lib.Seq.{sets, length-sets}
 use Rattle.text.specs.Span.{textOf}
-use Rattle.tree.specs.declared.record.Record.{Record}
-use Rattle.tree.specs.declared.record.RecordNo.{RecordNo}
-use Rattle.tree.specs.Table.{nodeOf}
+use Rattle.tree.specs.{declared.record.Record.Record, declared.record.RecordNo.RecordNo, Table.nodeOf}
 use Rattle.tree.specs.Cursor as cursor
-use Rattle.meaning.specs.declared.call.Call.the-variants.{WriteOwned, WriteRaw, FlushPrefixComments}
-use Rattle.meaning.specs.declared.answer.Refusal.the-variants.{NoRoom}
-use Rattle.meaning.specs.declared.answer.Answer.{Answer}
-use Rattle.meaning.specs.declared.answer.Answer.the-variants.{Done, Refused}
-use Rattle.meaning.specs.State.{Script, Comment, State, withLen, withUseLines}
-use Rattle.meaning.specs.Pieces.{Piece, gap, text, flat, Emit, emit}
-use Rattle.meaning.specs.Outcome.{Outcome, done, refused, refuseIf}
-use Rattle.meaning.specs.Collect.{gather, nodeText, behind}
-use Rattle.meaning.specs.Flush.{flushGap}
-use Rattle.meaning.specs.Release.{lineRelease}
-use Rattle.meaning.specs.Calls.{act, writeNode}
-use Rattle.meaning.specs.World.{World, world, Result, result, made}
-use Rattle.queue.specs.declared.run.Run.{Run}
-use Rattle.queue.specs.declared.room.Gap.{Gap}
-use Rattle.queue.specs.declared.release.Way.the-variants.{Lines}
-use Rattle.queue.specs.Run.{isRefused, answered, movedRun, hintedRun, flushedRun}
-use Rattle.queue.specs.View.{queueOf, view, resultOf, gapBytes}
-use Rattle.queue.specs.Parts.{steps, settles, Released, onAnswer, Gathered, Beside, WroteNode}
-use Rattle.queue.proofs.WriteLaws.{laid-length}
-use Rattle.queue.proofs.StepLaws.{open-steps}
-use Rattle.output.proofs.CallLaws.{Acted, gather-flat, behind-is, left-as, waiting}
+use Rattle.meaning.specs.{declared.call.Call.the-variants.WriteOwned, declared.call.Call.the-variants.WriteRaw}
+use Rattle.meaning.specs.{declared.call.Call.the-variants.FlushPrefixComments, declared.answer.Refusal.the-variants.NoRoom}
+use Rattle.meaning.specs.{declared.answer.Answer.Answer, declared.answer.Answer.the-variants.Done, declared.answer.Answer.the-variants.Refused}
+use Rattle.meaning.specs.{State.Script, State.Comment, State.State, State.withLen, State.withUseLines, Pieces.Piece, Pieces.gap, Pieces.text}
+use Rattle.meaning.specs.{Pieces.flat, Pieces.Emit, Pieces.emit, Outcome.Outcome, Outcome.done, Outcome.refused, Outcome.refuseIf, Collect.gather}
+use Rattle.meaning.specs.{Collect.nodeText, Collect.behind, Flush.flushGap, Release.lineRelease, Calls.act, Calls.writeNode, World.World, World.world}
+use Rattle.meaning.specs.{World.Result, World.result, World.made}
+use Rattle.queue.specs.{Run.Run, Run.isRefused, Run.answered, Run.movedRun, Run.hintedRun, Run.collectedRun, Run.flushedRun, declared.room.Gap.Gap}
+use Rattle.queue.specs.{declared.release.Way.the-variants.Lines, View.queueOf, View.view, View.resultOf, View.gapBytes, View.Laid, Parts.steps}
+use Rattle.queue.specs.{Parts.settles, Parts.LetsOut, Parts.onAnswer, Parts.Gathered, Parts.Collects, Parts.Beside, Parts.WroteNode}
+use Rattle.queue.proofs.{WriteLaws.laid-length, StepLaws.goes, StepLaws.open-steps}
+use Rattle.output.proofs.CallLaws.{Acted, gather-flat, behind-is, left-as, waiting, as-it-is}
 
 -- ---- a node's text, and then what stands behind it
 
@@ -80,16 +64,16 @@ module _ (x : Script) (k : RecordNo) (g : Gap) (next run : Run) (q b : List ℕ)
 
 -- ---- write_owned, write_raw
 
-pub owned-is : {x : Script} {k : RecordNo} {g : Gap} {next run : Run} {q b : List ℕ} {r : Run} {q′ b′ : List ℕ} → run .answer ≡ Done → gapBytes g ≡ flushGap (view run []) → next ≡ flushedRun false run
-    → WroteNode x k g next run q b r q′ b′ → Acted x (WriteOwned k) run q b r q′ b′
+owned-is : {x : Script} {k : RecordNo} {g : Gap} {run : Run} {q b : List ℕ} {r : Run} {q′ b′ : List ℕ} → run .answer ≡ Done → gapBytes g ≡ flushGap (view run [])
+    → WroteNode x k g (hintedRun run 0 false false) run q b r q′ b′ → Acted x (WriteOwned k) run q b r q′ b′
 unfolding act flushedRun
-owned-is {x} {k} {g} {next} {run} {q} {b} a eg en w = record {
+owned-is {x} {k} {g} {run} {q} {b} a eg w = record {
   out =
-      w .out a (rw en (record { answer = refl; len = refl; head = refl; count = refl }))
-      ∙ sym (open-steps _ (run .answer) (world (view run q) b) a ∙ rw (en, eg));
+      w .out a (record { answer = refl; len = refl; head = refl; count = refl })
+      ∙ sym (open-steps _ (run .answer) (world (view run q) b) a ∙ rw eg);
 }
 
-pub raw-is : {x : Script} {k : RecordNo} {g : Gap} {run : Run} {q b : List ℕ} {r : Run} {q′ b′ : List ℕ} → run .answer ≡ Done → gapBytes g ≡ [] → WroteNode x k g run run q b r q′ b′ → Acted x (WriteRaw k) run q b r q′ b′
+raw-is : {x : Script} {k : RecordNo} {g : Gap} {run : Run} {q b : List ℕ} {r : Run} {q′ b′ : List ℕ} → run .answer ≡ Done → gapBytes g ≡ [] → WroteNode x k g run run q b r q′ b′ → Acted x (WriteRaw k) run q b r q′ b′
 unfolding act
 raw-is {x} {k} {g} {run} {q} {b} a eg w = record {
   out =
@@ -97,6 +81,61 @@ raw-is {x} {k} {g} {run} {q} {b} a eg w = record {
       ∙ rw eg (gather-flat x (world (view run q) b) (behind x k) (ltb (length b) (run .len + length (nodeText x k ++ []))) (NoRoom (run .len)) (withLen (view run q) (run .len + length (nodeText x k ++ []))) (gap [] ∷ text (nodeText x k) ∷ []) (text (nodeText x k) ∷ []) refl)
       ∙ sym (open-steps _ (run .answer) (world (view run q) b) a);
 }
+
+-- ---- the length and the hints are not looked at while it collects
+
+abbrev after : ℕ → Bool → Bool → State → State
+after n useLines ws s = record { len = n; queue = s .queue; lines = s .lines; useLines = useLines; ws = ws; indent = s .indent; finished = s .finished }
+
+gather-after : (x : Script) (i n : ℕ) (u v : Bool) (s : State) (k : State → Outcome) → gather x i (after n u v s) k ≡ gather x i s (λ s′. k (after n u v s′))
+unfolding gather
+gather-after x i n u v s k = refl
+
+-- so with other hints, and another length, it collects the same
+gathered-after : {x : Script} {i l : ℕ} (run : Run) {q : List ℕ} {r : Run} {q′ : List ℕ} (n : ℕ) (u v : Bool) → run .answer ≡ Done → Gathered x i (collectedRun run l (run .count)) q r q′
+    → Gathered x i (movedRun (answered (hintedRun run l u v) Done) n) q (hintedRun (movedRun r n) (r .lines) u v) q′
+gathered-after {x} {i} {l} run {q} n u v a g = record {
+  out = λ d k. gather-after x i n u v (view (collectedRun run l (run .count)) q) k ∙ g .out a (λ s. k (after n u v s));
+  kept = g .kept;
+  long = refl;
+}
+
+-- a write that leaves these hints: what the code found, and what it left
+module _ (x : Script) (k : RecordNo) (g : Gap) (run : Run) (q b : List ℕ) (d : Record) (t : List ℕ) (open-yet : run .answer ≡ Done) (ed : d ≡ nodeOf (x .tree) (k .0)) (et : t ≡ textOf (x .source) (d .span)) where
+  module _ (l : ℕ) (u v : Bool) {i : ℕ} {stop : Bool} {r : Run} {q′ : List ℕ} (ei : i ≡ cursor.behind (x .tree) (k .0)) (c : Collects x i l run q stop r q′) (fits : ltb (length b) (run .len + (g .lines + g .spaces) + length t) ≡ false) where
+    wrote-full : stop ≡ true → WroteNode x k g (hintedRun run l u v) run q b r q′ b
+    wrote-full h = node-full x k g (hintedRun run l u v) run q b d t ed et _ _ q′ i refl ei (gathered-after run _ u v open-yet (c .gathered)) fits (sym (c .told open-yet) ∙ h) (c .full h)
+
+    wrote-done : {o : Run} {to : ℕ} {b′ : List ℕ} → stop ≡ false → Laid b (run .len) g t to b′ → o ≡ hintedRun (movedRun r to) (r .lines) u v → WroteNode x k g (hintedRun run l u v) run q b o q′ b′
+    wrote-done h eb eo =
+        rw (eo, eb .end) (node-done x k g (hintedRun run l u v) run q b d t ed et _ _ q′ i refl ei (gathered-after run _ u v open-yet (c .gathered)) fits (goes (c .told open-yet) h) (eb .bytes) (ap length (eb .bytes) ∙ length-sets b (run .len) (gapBytes g ++ t)))
+
+  -- the white space that is due goes with it
+  module _ (eg : gapBytes g ≡ flushGap (view run [])) where
+    pub owned-past : {o : Run} → ltb (length b) (run .len + (g .lines + g .spaces) + length t) ≡ true → o ≡ answered run (Refused (NoRoom (run .len))) → Acted x (WriteOwned k) run q b o q b
+    owned-past h e = owned-is open-yet eg (node-past x k g (hintedRun run 0 false false) run q b d t ed et h e)
+
+    module _ {i : ℕ} {stop : Bool} {r : Run} {q′ : List ℕ} (ei : i ≡ cursor.behind (x .tree) (k .0)) (c : Collects x i 0 run q stop r q′) (fits : ltb (length b) (run .len + (g .lines + g .spaces) + length t) ≡ false) where
+      pub owned-full : stop ≡ true → Acted x (WriteOwned k) run q b r q′ b
+      owned-full h = owned-is open-yet eg (wrote-full 0 false false ei c fits h)
+
+      pub owned-done : {o : Run} {to : ℕ} {b′ : List ℕ} → stop ≡ false → Laid b (run .len) g t to b′ → o ≡ hintedRun (movedRun r to) (r .lines) false false → Acted x (WriteOwned k) run q b o q′ b′
+      owned-done h eb eo = owned-is open-yet eg (wrote-done 0 false false ei c fits h eb eo)
+
+  -- the hints stay
+  module _ (eg : gapBytes g ≡ []) where
+    pub raw-past : {o : Run} → ltb (length b) (run .len + (g .lines + g .spaces) + length t) ≡ true → o ≡ answered run (Refused (NoRoom (run .len))) → Acted x (WriteRaw k) run q b o q b
+    raw-past h e = raw-is open-yet eg (node-past x k g run run q b d t ed et h e)
+
+    module _ {i l : ℕ} {stop : Bool} {r : Run} {q′ : List ℕ} (ei : i ≡ cursor.behind (x .tree) (k .0)) (el : l ≡ run .lines) (c : Collects x i l run q stop r q′) (fits : ltb (length b) (run .len + (g .lines + g .spaces) + length t) ≡ false) where
+      here : Collects x i (run .lines) run q stop r q′
+      here = rw el at c
+
+      pub raw-full : stop ≡ true → Acted x (WriteRaw k) run q b r q′ b
+      raw-full h = raw-is open-yet eg (wrote-full (run .lines) (run .useLines) (run .ws) ei here fits h)
+
+      pub raw-done : {o : Run} {to : ℕ} {b′ : List ℕ} → stop ≡ false → Laid b (run .len) g t to b′ → o ≡ movedRun r to → Acted x (WriteRaw k) run q b o q′ b′
+      raw-done {o} {to} h eb eo = raw-is open-yet eg (wrote-done (run .lines) (run .useLines) (run .ws) ei here fits h eb (eo ∙ rw (here .rest h)))
 
 -- ---- flush_prefix_comments
 
@@ -120,25 +159,35 @@ module _ (n : ℕ) (s s₁ u : State) (b : List ℕ) (ps : List Piece) (r : Run)
       let z : b′ ≡ sets b (s .len) (flat ps) = ap (λ (z : Result). z .left .buffer) e ∙ rw en in
       rw (h, z) (ap (λ (v : State). result Done (world (prefixed v) (sets b (s .len) (flat ps)))) y)
 
-module _ (x : Script) (run : Run) (q b : List ℕ) (open-yet : run .answer ≡ Done) (g : Run) (q′ : List ℕ) (c : Gathered x 0 run q g q′) where
+module _ (x : Script) {run : Run} {q : List ℕ} (b : List ℕ) {g : Run} {q′ : List ℕ} {l : ℕ} {stop : Bool} (open-yet : run .answer ≡ Done) (el : l ≡ run .lines) (d : Collects x 0 l run q stop g q′) where
+  c : Gathered x 0 run q g q′
+  c = as-it-is el d
+
   prefix-is : steps (λ cap s. act x cap s FlushPrefixComments) (resultOf run q b) ≡ made (world (view run q) b) (onAnswer (g .answer) (settles (length b) (view run q) (lineRelease (x .source) false (view g q′)) prefixed))
   unfolding act
   prefix-is = open-steps _ (run .answer) (world (view run q) b) open-yet ∙ ap (made (world (view run q) b)) (c .out open-yet (λ s₁. settles (length b) (view run q) (lineRelease (x .source) false s₁) prefixed))
 
-  pub prefix-full : {o : Run} → isRefused (g .answer) ≡ true → o ≡ answered run (g .answer) → Acted x FlushPrefixComments run q b o q′ b
-  prefix-full h e = record { out = rw e (left-as run b _ c refl refl h) ∙ sym prefix-is }
+  pub prefix-full : stop ≡ true → Acted x FlushPrefixComments run q b g q′ b
+  prefix-full h = record { out = rw (d .full h) (left-as run b _ c refl refl (sym (d .told open-yet) ∙ h)) ∙ sym prefix-is }
 
-  module _ (gathered : g .answer ≡ Done) (r : Run) (b′ : List ℕ) (e : Released (x .source) (Lines false) q′ g b r b′) where
+  module _ (going : stop ≡ false) {r : Run} {b′ : List ℕ} (e : LetsOut (x .source) (Lines false) q′ g b r b′) where
+    gathered : g .answer ≡ Done
+    gathered = goes (d .told open-yet) going
+
     let-out : resultOf r q′ b′ ≡ made (world (view g q′) b) (settles (length b) (view g q′) (lineRelease (x .source) false (view g q′)) (λ s. s))
     let-out = e .out ∙ open-steps _ (g .answer) (world (view g q′) b) gathered
 
     then-release : made (world (view run q) b) (settles (length b) (view run q) (lineRelease (x .source) false (view g q′)) prefixed) ≡ steps (λ cap s. act x cap s FlushPrefixComments) (resultOf run q b)
     then-release = sym (prefix-is ∙ rw gathered)
 
-    pub prefix-past : {o : Run} → isRefused (r .answer) ≡ true → o ≡ answered run (r .answer) → Acted x FlushPrefixComments run q b o q′ b′
-    prefix-past h eo = record {
+    -- what was collected is taken back
+    back : isRefused (r .answer) ≡ true → collectedRun r (run .lines) (run .count) ≡ answered run (r .answer)
+    back h = rw (e .stays h, d .rest going)
+
+    pub prefix-past : {o : Run} {n : ℕ} → isRefused (r .answer) ≡ true → n ≡ run .count → o ≡ collectedRun r l n → Acted x FlushPrefixComments run q b o q′ b′
+    prefix-past h en eo = record {
       out =
-          rw eo (ap (λ (s : State). result (r .answer) (world s b′)) (waiting run q q′ (c .kept)))
+          rw (eo, el, en, back h) (ap (λ (s : State). result (r .answer) (world s b′)) (waiting run q q′ (c .kept)))
           ∙ past-at 0 (view run q) (view g q′) (lineRelease (x .source) false (view g q′) .state) b (lineRelease (x .source) false (view g q′) .out) r q′ b′ (c .long) (ltb (length b) (lineRelease (x .source) false (view g q′) .state .len)) let-out h
           ∙ then-release;
     }

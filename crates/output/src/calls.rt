@@ -1,22 +1,36 @@
-// The eleven calls on a run. All have one list of parameters and one contract: what is left is what the plan of this one call leaves.
+// The eleven calls. All have one list of parameters and one contract: what is left is what the plan of this one call leaves.
 use crate::flush::due;
-use crate::flush::flushed;
 use crate::flush::put;
-use meaning::answer::Answer;
 use meaning::answer::Refusal;
 use meaning::call::Call;
 use meaning::call::Hint;
 use meaning::call::Literal;
 use queue::collect::or_else;
 use queue::collect::process_comments;
+use queue::formatter::Formatter;
+use queue::formatter::close;
+use queue::formatter::collected;
+use queue::formatter::count;
+use queue::formatter::indent as indent_of;
+use queue::formatter::len;
+use queue::formatter::lines;
+use queue::formatter::refused;
+use queue::formatter::set_indent;
+use queue::formatter::set_len;
+use queue::formatter::set_lines;
+use queue::formatter::set_use_lines;
+use queue::formatter::set_ws;
+use queue::formatter::stopped;
+use queue::formatter::stops;
+use queue::formatter::stops_for;
+use queue::formatter::written;
 use queue::release::Way;
 use queue::release::release;
 use queue::release::release_waiting;
-use queue::room::Gap;
+use queue::ring::Queue;
 use queue::room::lay;
 use queue::room::no_gap;
 use queue::room::passes;
-use queue::run::Run;
 use queue::wording::LITERALS;
 use queue::wording::Words;
 use queue::wording::text;
@@ -24,124 +38,109 @@ use tree::cursor::behind;
 use tree::record::RecordNo;
 use tree::table::node;
 ghost use mathlib.Core.Path.{_≡_};
-ghost use Rattle.meaning.specs.Plan.{make, Ran};
+ghost use Rattle.meaning.specs.Plan.{make};
 ghost use Rattle.queue.specs.Passes.{wayOf};
-ghost use Rattle.queue.specs.View.{scriptOf, resultOf};
-ghost use Rattle.queue.specs.Parts.{WroteNode};
+ghost use Rattle.queue.specs.Loans.{Made};
 
-// The gap and the node's text go out, and what stands behind the node is collected. `next` is the run with the hints that are left then.
-fn write_node(
-    src: &[u8],
-    table: &[u32],
-    queue: &mut [u32; 1024],
-    out: &mut [u8],
-    run: Run,
-    next: Run,
-    gap: Gap,
-    k: RecordNo,
-) -> Run
-    ensures { λ r. ⌜ WroteNode (scriptOf (now (src .entry)) (now (table .entry))) k gap next run (now (queue .entry)) (now (out .entry)) r (now (queue .exit)) (now (out .exit)) ⌝ }
-{
-    let at = run.len;
-    let span = node(table, k).span;
-    let t = text(src, &LITERALS, Words::Node(span));
-    if passes(out.len(), at, gap, t.len()) {
-        return run.refused(Refusal::NoRoom(at));
-    }
-    let moved = next.answered(Answer::Done)
-        .moved(at + (gap.lines + gap.spaces) + t.len());
-    let got = process_comments(src, table, queue, moved, behind(table, k));
-    if got.stopped() {
-        return run.refused_as(got);
-    }
-    lay(out, at, gap, t);
-    got
-}
-
+// The white space that is due, the node's text, and what stands behind the node is collected.
 pub fn write_owned(
     src: &[u8],
     table: &[u32],
-    queue: &mut [u32; 1024],
+    fmt: &mut Formatter,
+    queue: &mut Queue,
     out: &mut [u8],
-    run: Run,
     k: RecordNo,
-) -> Run
-    ensures { λ r. ⌜ Ran (scriptOf (now (src .entry)) (now (table .entry))) (make (Call.WriteOwned k)) (resultOf run (now (queue .entry)) (now (out .entry))) (resultOf r (now (queue .exit)) (now (out .exit))) ⌝ }
+)
+    ensures { λ _. ⌜ Made src table fmt queue out (make (Call.WriteOwned k)) ⌝ }
 {
-    let go = run.ready_for(table, k);
-    if go.stopped() {
-        return go;
+    if stops_for(table, fmt, k) {
+        return;
     }
-    write_node(src, table, queue, out, go, flushed(go, false), due(go), k).anew()
+    let at = len(fmt);
+    let gap = due(fmt);
+    let span = node(table, k).span;
+    let t = text(src, &LITERALS, Words::Node(span));
+    if passes(out.len(), at, gap, t.len()) {
+        refused(fmt, Refusal::NoRoom(at));
+        return;
+    }
+    if process_comments(src, table, fmt, queue, behind(table, k), 0) {
+        return;
+    }
+    let to = lay(out, at, gap, t);
+    written(fmt, to);
 }
 
 pub fn write_raw(
     src: &[u8],
     table: &[u32],
-    queue: &mut [u32; 1024],
+    fmt: &mut Formatter,
+    queue: &mut Queue,
     out: &mut [u8],
-    run: Run,
     k: RecordNo,
-) -> Run
-    ensures { λ r. ⌜ Ran (scriptOf (now (src .entry)) (now (table .entry))) (make (Call.WriteRaw k)) (resultOf run (now (queue .entry)) (now (out .entry))) (resultOf r (now (queue .exit)) (now (out .exit))) ⌝ }
+)
+    ensures { λ _. ⌜ Made src table fmt queue out (make (Call.WriteRaw k)) ⌝ }
 {
-    let go = run.ready_for(table, k);
-    if go.stopped() {
-        return go;
+    if stops_for(table, fmt, k) {
+        return;
     }
-    write_node(src, table, queue, out, go, go, no_gap(), k).anew()
+    let at = len(fmt);
+    let gap = no_gap();
+    let span = node(table, k).span;
+    let t = text(src, &LITERALS, Words::Node(span));
+    if passes(out.len(), at, gap, t.len()) {
+        refused(fmt, Refusal::NoRoom(at));
+        return;
+    }
+    if process_comments(src, table, fmt, queue, behind(table, k), lines(fmt)) {
+        return;
+    }
+    let to = lay(out, at, gap, t);
+    set_len(fmt, to);
 }
 
 pub fn ignore(
     src: &[u8],
     table: &[u32],
-    queue: &mut [u32; 1024],
+    fmt: &mut Formatter,
+    queue: &mut Queue,
     out: &mut [u8],
-    run: Run,
     k: RecordNo,
-) -> Run
-    ensures { λ r. ⌜ Ran (scriptOf (now (src .entry)) (now (table .entry))) (make (Call.Ignore k)) (resultOf run (now (queue .entry)) (now (out .entry))) (resultOf r (now (queue .exit)) (now (out .exit))) ⌝ }
+)
+    ensures { λ _. ⌜ Made src table fmt queue out (make (Call.Ignore k)) ⌝ }
 {
-    let go = run.ready_for(table, k);
-    if go.stopped() {
-        return go;
+    if stops_for(table, fmt, k) {
+        return;
     }
-    let r = process_comments(src, table, queue, go, behind(table, k));
-    if r.stopped() {
-        return go.refused_as(r);
-    }
-    r
+    process_comments(src, table, fmt, queue, behind(table, k), lines(fmt));
 }
 
 pub fn lit(
     src: &[u8],
     table: &[u32],
-    queue: &mut [u32; 1024],
+    fmt: &mut Formatter,
+    queue: &mut Queue,
     out: &mut [u8],
-    run: Run,
     l: Literal,
-) -> Run
-    ensures { λ r. ⌜ Ran (scriptOf (now (src .entry)) (now (table .entry))) (make (Call.Lit l)) (resultOf run (now (queue .entry)) (now (out .entry))) (resultOf r (now (queue .exit)) (now (out .exit))) ⌝ }
+)
+    ensures { λ _. ⌜ Made src table fmt queue out (make (Call.Lit l)) ⌝ }
 {
-    put(
-        out,
-        run.ready(),
-        true,
-        text(src, &LITERALS, Words::Literal(l)),
-    )
+    stops(fmt);
+    put(fmt, out, true, text(src, &LITERALS, Words::Literal(l)));
 }
 
 pub fn flush_whitespace(
     src: &[u8],
     table: &[u32],
-    queue: &mut [u32; 1024],
+    fmt: &mut Formatter,
+    queue: &mut Queue,
     out: &mut [u8],
-    run: Run,
     preserve: bool,
-) -> Run
-    ensures { λ r. ⌜ Ran (scriptOf (now (src .entry)) (now (table .entry))) (make (Call.FlushWhitespace preserve)) (resultOf run (now (queue .entry)) (now (out .entry))) (resultOf r (now (queue .exit)) (now (out .exit))) ⌝ }
+)
+    ensures { λ _. ⌜ Made src table fmt queue out (make (Call.FlushWhitespace preserve)) ⌝ }
 {
-    put(out, run.ready(), preserve, &src[..0])
+    stops(fmt);
+    put(fmt, out, preserve, &src[..0]);
 }
 
 // How a hint lets comments out.
@@ -159,133 +158,133 @@ fn way_of(h: Hint) -> Way
 pub fn comments(
     src: &[u8],
     table: &[u32],
-    queue: &mut [u32; 1024],
+    fmt: &mut Formatter,
+    queue: &mut Queue,
     out: &mut [u8],
-    run: Run,
     h: Hint,
-) -> Run
-    ensures { λ r. ⌜ Ran (scriptOf (now (src .entry)) (now (table .entry))) (make (Call.Comments h)) (resultOf run (now (queue .entry)) (now (out .entry))) (resultOf r (now (queue .exit)) (now (out .exit))) ⌝ }
+)
+    ensures { λ _. ⌜ Made src table fmt queue out (make (Call.Comments h)) ⌝ }
 {
-    release_waiting(src, queue, out, run.ready(), way_of(h))
+    stops(fmt);
+    release(src, fmt, queue, out, way_of(h));
 }
 
 // The byte is a signed one; `indent` stays from 0 to 64.
 pub fn indent(
     src: &[u8],
     table: &[u32],
-    queue: &mut [u32; 1024],
+    fmt: &mut Formatter,
+    queue: &mut Queue,
     out: &mut [u8],
-    run: Run,
     d: u8,
-) -> Run
-    ensures { λ r. ⌜ Ran (scriptOf (now (src .entry)) (now (table .entry))) (make (Call.Indent d)) (resultOf run (now (queue .entry)) (now (out .entry))) (resultOf r (now (queue .exit)) (now (out .exit))) ⌝ }
+)
+    ensures { λ _. ⌜ Made src table fmt queue out (make (Call.Indent d)) ⌝ }
 {
-    let go = run.ready();
-    if go.stopped() {
-        return go;
+    if stops(fmt) {
+        return;
     }
-    let i = go.indent as u32;
+    let i = indent_of(fmt) as u32;
     let b = d as u32;
     if b < 0x80 {
         if 64 < i + b {
-            return go.refused(Refusal::IndentOut(i));
+            refused(fmt, Refusal::IndentOut(i));
+            return;
         }
-        return go.indented((i + b) as u8);
+        set_indent(fmt, (i + b) as u8);
+        return;
     }
     if i < 0x100 - b {
-        return go.refused(Refusal::IndentOut(i));
+        refused(fmt, Refusal::IndentOut(i));
+        return;
     }
-    go.indented((i - (0x100 - b)) as u8)
+    set_indent(fmt, (i - (0x100 - b)) as u8);
 }
 
 // An offer of n newlines: the script's own count wins.
-pub fn nl(
-    src: &[u8],
-    table: &[u32],
-    queue: &mut [u32; 1024],
-    out: &mut [u8],
-    run: Run,
-    n: u8,
-) -> Run
-    ensures { λ r. ⌜ Ran (scriptOf (now (src .entry)) (now (table .entry))) (make (Call.Nl n)) (resultOf run (now (queue .entry)) (now (out .entry))) (resultOf r (now (queue .exit)) (now (out .exit))) ⌝ }
+pub fn nl(src: &[u8], table: &[u32], fmt: &mut Formatter, queue: &mut Queue, out: &mut [u8], n: u8)
+    ensures { λ _. ⌜ Made src table fmt queue out (make (Call.Nl n)) ⌝ }
 {
-    let go = run.ready();
+    stops(fmt);
     if n == 0 {
-        return go;
+        return;
     }
-    let r = release_waiting(src, queue, out, go, Way::Lines(true));
-    if r.stopped() {
-        return r;
+    release(src, fmt, queue, out, Way::Lines(true));
+    if stopped(fmt) {
+        return;
     }
-    r.hinted(or_else(r.lines, n as u32), true, r.ws)
+    set_lines(fmt, or_else(lines(fmt), n as u32));
 }
 
-pub fn ws(src: &[u8], table: &[u32], queue: &mut [u32; 1024], out: &mut [u8], run: Run) -> Run
-    ensures { λ r. ⌜ Ran (scriptOf (now (src .entry)) (now (table .entry))) (make Call.Ws) (resultOf run (now (queue .entry)) (now (out .entry))) (resultOf r (now (queue .exit)) (now (out .exit))) ⌝ }
+pub fn ws(src: &[u8], table: &[u32], fmt: &mut Formatter, queue: &mut Queue, out: &mut [u8])
+    ensures { λ _. ⌜ Made src table fmt queue out (make Call.Ws) ⌝ }
 {
-    let r = release_waiting(src, queue, out, run.ready(), Way::Spaces(true, false));
-    if r.stopped() {
-        return r;
+    stops(fmt);
+    release(src, fmt, queue, out, Way::Spaces(true, false));
+    if stopped(fmt) {
+        return;
     }
-    r.hinted(r.lines, r.use_lines, true)
+    set_ws(fmt, true);
 }
 
+// Refused while it lets comments out, it has not collected them.
 pub fn flush_prefix_comments(
     src: &[u8],
     table: &[u32],
-    queue: &mut [u32; 1024],
+    fmt: &mut Formatter,
+    queue: &mut Queue,
     out: &mut [u8],
-    run: Run,
-) -> Run
-    ensures { λ r. ⌜ Ran (scriptOf (now (src .entry)) (now (table .entry))) (make Call.FlushPrefixComments) (resultOf run (now (queue .entry)) (now (out .entry))) (resultOf r (now (queue .exit)) (now (out .exit))) ⌝ }
+)
+    ensures { λ _. ⌜ Made src table fmt queue out (make Call.FlushPrefixComments) ⌝ }
 {
-    let go = run.ready();
-    if go.stopped() {
-        return go;
+    if stops(fmt) {
+        return;
     }
-    let g = process_comments(src, table, queue, go, RecordNo(0));
-    if g.stopped() {
-        return go.refused_as(g);
+    let before = lines(fmt);
+    let waiting = count(fmt);
+    if process_comments(src, table, fmt, queue, RecordNo(0), before) {
+        return;
     }
-    let r = release(src, queue, out, g, Way::Lines(false));
-    if r.stopped() {
-        return go.refused_as(r);
+    release_waiting(src, fmt, queue, out, Way::Lines(false));
+    if stopped(fmt) {
+        collected(fmt, before, waiting);
+        return;
     }
-    r.hinted(r.lines, 0 < r.lines, r.ws)
+    set_use_lines(fmt, 0 < lines(fmt));
 }
 
-pub fn finish(src: &[u8], table: &[u32], queue: &mut [u32; 1024], out: &mut [u8], run: Run) -> Run
-    ensures { λ r. ⌜ Ran (scriptOf (now (src .entry)) (now (table .entry))) (make Call.Finish) (resultOf run (now (queue .entry)) (now (out .entry))) (resultOf r (now (queue .exit)) (now (out .exit))) ⌝ }
+pub fn finish(src: &[u8], table: &[u32], fmt: &mut Formatter, queue: &mut Queue, out: &mut [u8])
+    ensures { λ _. ⌜ Made src table fmt queue out (make Call.Finish) ⌝ }
 {
-    let r = release(src, queue, out, run.ready(), Way::Lines(false));
-    if r.stopped() {
-        return r;
+    stops(fmt);
+    release_waiting(src, fmt, queue, out, Way::Lines(false));
+    if stopped(fmt) {
+        return;
     }
-    r.closed()
+    close(fmt);
 }
 
 // Any call.
 pub fn make_call(
     src: &[u8],
     table: &[u32],
-    queue: &mut [u32; 1024],
+    fmt: &mut Formatter,
+    queue: &mut Queue,
     out: &mut [u8],
-    run: Run,
     c: Call,
-) -> Run
-    ensures { λ r. ⌜ Ran (scriptOf (now (src .entry)) (now (table .entry))) (make c) (resultOf run (now (queue .entry)) (now (out .entry))) (resultOf r (now (queue .exit)) (now (out .exit))) ⌝ }
+)
+    ensures { λ _. ⌜ Made src table fmt queue out (make c) ⌝ }
 {
     match c {
-        Call::WriteOwned(k) => write_owned(src, table, queue, out, run, k),
-        Call::WriteRaw(k) => write_raw(src, table, queue, out, run, k),
-        Call::Ignore(k) => ignore(src, table, queue, out, run, k),
-        Call::Lit(l) => lit(src, table, queue, out, run, l),
-        Call::Comments(h) => comments(src, table, queue, out, run, h),
-        Call::Indent(d) => indent(src, table, queue, out, run, d),
-        Call::Nl(n) => nl(src, table, queue, out, run, n),
-        Call::Ws => ws(src, table, queue, out, run),
-        Call::FlushWhitespace(p) => flush_whitespace(src, table, queue, out, run, p),
-        Call::FlushPrefixComments => flush_prefix_comments(src, table, queue, out, run),
-        Call::Finish => finish(src, table, queue, out, run),
+        Call::WriteOwned(k) => write_owned(src, table, fmt, queue, out, k),
+        Call::WriteRaw(k) => write_raw(src, table, fmt, queue, out, k),
+        Call::Ignore(k) => ignore(src, table, fmt, queue, out, k),
+        Call::Lit(l) => lit(src, table, fmt, queue, out, l),
+        Call::Comments(h) => comments(src, table, fmt, queue, out, h),
+        Call::Indent(d) => indent(src, table, fmt, queue, out, d),
+        Call::Nl(n) => nl(src, table, fmt, queue, out, n),
+        Call::Ws => ws(src, table, fmt, queue, out),
+        Call::FlushWhitespace(p) => flush_whitespace(src, table, fmt, queue, out, p),
+        Call::FlushPrefixComments => flush_prefix_comments(src, table, fmt, queue, out),
+        Call::Finish => finish(src, table, fmt, queue, out),
     }
 }

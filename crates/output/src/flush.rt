@@ -1,69 +1,82 @@
 // The flush: the white space that is due, and a text behind it.
-use meaning::answer::Answer;
 use meaning::answer::Refusal;
+use queue::formatter::Formatter;
+use queue::formatter::clear;
+use queue::formatter::indent;
+use queue::formatter::len;
+use queue::formatter::lines;
+use queue::formatter::refused;
+use queue::formatter::set_len;
+use queue::formatter::set_ws;
+use queue::formatter::spaced;
+use queue::formatter::stopped;
+use queue::formatter::use_lines;
 use queue::room::Gap;
 use queue::room::lay;
 use queue::room::line_break;
 use queue::room::no_gap;
 use queue::room::one_space;
 use queue::room::passes;
-use queue::run::Run;
 ghost use mathlib.Core.Path.{_≡_};
 ghost use mathlib.Core.List.{[]};
 ghost use Rattle.meaning.specs.Flush.{breaking, flushGap};
 ghost use Rattle.queue.specs.Run.{flushedRun};
 ghost use Rattle.queue.specs.View.{view, gapBytes};
-ghost use Rattle.queue.specs.Parts.{PutText};
+ghost use Rattle.queue.specs.Words.{runOf};
+ghost use Rattle.queue.specs.Parts.{Put};
 
 // Newlines are due: `use_lines`, and `lines` is not 0.
-fn breaking(run: Run) -> bool
-    ensures { λ r. ⌜ r ≡ breaking (view run []) ⌝ }
+fn breaking(fmt: &Formatter) -> bool
+    ensures { λ r. ⌜ r ≡ breaking (view (runOf (now (fmt .entry))) []) ⌝ }
 {
-    if run.use_lines {
-        return 0 < run.lines;
+    if use_lines(fmt) {
+        return 0 < lines(fmt);
     }
     false
 }
 
 // The white space that is due.
-pub fn due(run: Run) -> Gap
-    ensures { λ r. ⌜ gapBytes r ≡ flushGap (view run []) ⌝ }
+pub fn due(fmt: &Formatter) -> Gap
+    ensures { λ r. ⌜ gapBytes r ≡ flushGap (view (runOf (now (fmt .entry))) []) ⌝ }
 {
-    if breaking(run) {
-        return line_break(run.indent, run.lines);
+    if breaking(fmt) {
+        return line_break(indent(fmt), lines(fmt));
     }
-    if run.ws {
+    if spaced(fmt) {
         return one_space();
     }
     no_gap()
 }
 
 // What a flush leaves of the three hints.
-pub fn flushed(run: Run, preserve: bool) -> Run
-    ensures { λ r. ⌜ r ≡ flushedRun preserve run ⌝ }
+fn flush(fmt: &mut Formatter, preserve: bool)
+    ensures { λ _. ⌜ runOf (now (fmt .exit)) ≡ flushedRun preserve (runOf (now (fmt .entry))) ⌝ }
 {
     if preserve {
-        if breaking(run) {
-            return run.hinted(0, false, false);
+        if breaking(fmt) {
+            clear(fmt);
+            return;
         }
-        return run.hinted(run.lines, run.use_lines, false);
+        set_ws(fmt, false);
+        return;
     }
-    run.hinted(0, false, false)
+    clear(fmt);
 }
 
 // The white space that is due, and a text.
-pub fn put(out: &mut [u8], run: Run, preserve: bool, t: &[u8]) -> Run
-    ensures { λ r. ⌜ PutText preserve (now (t .entry)) run (now (out .entry)) r (now (out .exit)) ⌝ }
+pub fn put(fmt: &mut Formatter, out: &mut [u8], preserve: bool, t: &[u8])
+    ensures { λ _. ⌜ Put fmt out preserve t ⌝ }
 {
-    if run.stopped() {
-        return run;
+    if stopped(fmt) {
+        return;
     }
-    let at = run.len;
-    let gap = due(run);
+    let at = len(fmt);
+    let gap = due(fmt);
     if passes(out.len(), at, gap, t.len()) {
-        return run.refused(Refusal::NoRoom(at));
+        refused(fmt, Refusal::NoRoom(at));
+        return;
     }
-    lay(out, at, gap, t);
-    let next = flushed(run.answered(Answer::Done), preserve);
-    next.moved(at + (gap.lines + gap.spaces) + t.len())
+    let to = lay(out, at, gap, t);
+    flush(fmt, preserve);
+    set_len(fmt, to);
 }

@@ -1,45 +1,47 @@
--- Laws of modifiers: the words, a turn of their loop, and the space behind the last. Assumes nothing.
-use mathlib.Core.Path.{_≡_, refl}
-use mathlib.Core.Bool.{Bool, true, false}
-use mathlib.Core.List.{List}
-use Prim.Native.Nat.{ℕ}
-use Rattle.tree.specs.declared.record.Record.{Record}
-use Rattle.kinds.specs.declared.Kind.{Kind}
-use Rattle.meaning.specs.State.{Script}
-use Rattle.meaning.specs.World.{Result}
-use Rattle.meaning.specs.Plan.{Ran}
-use Rattle.steps.specs.declared.items.Few.{Few}
-use Rattle.steps.specs.declared.items.Items.{Items}
-use Rattle.steps.specs.Stream.{Stream, streamOf}
-use Rattle.steps.specs.Flow.{pump, is, Flowed}
-use Rattle.steps.specs.Items.{Place, place, placeOf, more}
-use Rattle.paths.specs.Attribute.{apart, isWord, modifier, modifierTurn, spaceEnd}
-use Rattle.steps.proofs.LoopLaws.{Falls}
-use Rattle.steps.proofs.ItemLaws.{pump-takes}
+-- Laws of modifiers: the rule by the byte of the kind, and the space between them. Assumes nothing.
+use Rattle.steps.proofs.Rules.{_≡_, refl, sym, subst, _∙_, Bool, true, false, cond, _||_, List, _⊎_, inl, inr, ℕ, zero, suc, _+_, _-_, _<_, _≤_}
+use Rattle.steps.proofs.Rules.{arith, eqb, ne-eqb, Record, RecordNo, nodeOf, byteOf, factsOf, Ws, WrongKind, Script, make, refuse, _then_, Engine}
+use Rattle.steps.proofs.Rules.{engine, Makes, Refuses, write, parse, pump-takes, Each}
+use Rattle.queue.proofs.MadeLaws as made
+use Rattle.paths.specs.Attribute.{apart, isWord, modifierWord, modifierIn, modifier, nextModifier}
 
--- the words, one after the other
-module _ (rs : List Record) (k : ℕ) {t : Bool} (e : t ≡ is rs Kind.ModifierSuper k) where
-  pub word-super : t ≡ true → true ≡ isWord rs k
-  unfolding isWord
-  word-super h = rw (← e, h)
+-- ---- by the byte of its kind
 
-  pub word-self : {u : Bool} → t ≡ false → u ≡ is rs Kind.ModifierSelf k → u ≡ true → true ≡ isWord rs k
-  unfolding isWord
-  word-self h f g = rw (← e, h, ← f, g)
+three : (n : ℕ) → 133 ≤ n → n < 136 → (eqb n 133 || eqb n 134 || eqb n 135) ≡ true
+three n l h = let z : (n - 133) + 133 ≡ n = omega arith in subst (λ (n : ℕ). (eqb n 133 || eqb n 134 || eqb n 135) ≡ true) z (go (n - 133) (omega arith))
+  where
+    go : (m : ℕ) → m < 3 → (eqb (m + 133) 133 || eqb (m + 133) 134 || eqb (m + 133) 135) ≡ true
+    go zero u = refl
+    go (suc zero) u = refl
+    go (suc (suc zero)) u = refl
+    go (suc (suc (suc m))) u = absurd (omega arith)
 
-  pub word-crate : {u v : Bool} → t ≡ false → u ≡ is rs Kind.ModifierSelf k → u ≡ false → v ≡ is rs Kind.ModifierCrate k → v ≡ isWord rs k
-  unfolding isWord
-  word-crate h f g w = rw (← e, h, ← f, g) w
+module _ {x : Script} (rs : List Record) (any : Bool) (k : RecordNo) {n : ℕ} (q : n ≡ nodeOf rs (k .0) .kind) where
+  pub as-word : {e e′ : Engine} → 133 ≤ n → n < 136 → Makes x (parse rs (modifierWord rs) k) e e′ → Makes x (modifier rs any k) e e′
+  unfolding modifier isWord byteOf factsOf
+  as-word l h a = rw (← q, three n l h) a
 
--- a turn counts the modifier
-pub turned : {x : Script} (rs : List Record) (s : Items) {n : Few} {r r′ : Result} {s′ : Stream} → Flowed x (pump (modifier rs (s .count))) (streamOf rs (s .p)) r r′ s′ → n ≡ more (s .count) → Flowed x (modifierTurn rs) (placeOf rs s) r r′ (place s′ (s .comma) n)
-unfolding modifierTurn
-turned rs s h e = rw (e, h .at) (record { ran = h .ran; at = refl })
+  pub as-in : {e e′ : Engine} → n ≡ 136 → Makes x (parse rs (modifierIn rs) k) e e′ → Makes x (modifier rs any k) e e′
+  unfolding modifier isWord byteOf factsOf
+  as-in h a = rw (sym q ∙ h) a
 
-pub modifiers-fall : (rs : List Record) → Falls (λ (s : Place). s .rest) (λ (k : ℕ). true) (modifierTurn rs)
-unfolding modifierTurn
-modifiers-fall rs = record { less = λ s h. pump-takes (λ (k : ℕ). true) (modifier rs (s .count)) .less (s .rest) h }
+  pub as-error : {w w′ b c : List ℕ} → n ≡ 254 → Refuses (refuse (WrongKind k)) w w′ → Makes x (modifier rs any k) (engine w b c) (engine w′ b c)
+  unfolding modifier isWord byteOf factsOf
+  as-error h a = rw (sym q ∙ h) (a .ran x _ _)
 
-pub spaced-behind : {x : Script} (rs : List Record) (s : Items) {r r′ : Result} → Ran x (apart (s .count)) r r′ → Flowed x spaceEnd (placeOf rs s) r r′ (streamOf rs (s .p))
-unfolding spaceEnd
-spaced-behind rs s h = record { ran = h; at = refl }
+  pub as-other : {e e′ : Engine} → _⊎_ (n < 133) (136 ≤ n) → (n ≡ 136 → ⊥) → (n ≡ 254 → ⊥) → Makes x (apart any then write k) e e′ → Makes x (modifier rs any k) e e′
+  unfolding modifier isWord byteOf factsOf
+  as-other o i w a = let far : (m : ℕ) → m < 3 → n ≡ 133 + m → ⊥ = λ m u e. elim o [ inl l ↦ omega arith | inr l ↦ omega arith ] in
+      rw (← q, ne-eqb n 133 (far 0 (omega arith)), ne-eqb n 134 (far 1 (omega arith)), ne-eqb n 135 (far 2 (omega arith)), ne-eqb n 136 i, ne-eqb n 254 w) a
+
+-- a space, or none
+pub apart-so : {x : Script} {t : Bool} {e e′ : Engine} → t ≡ true → Makes x (make Ws) e e′ → Makes x (apart t) e e′
+unfolding apart
+apart-so h a = rw h a
+
+pub apart-not : {x : Script} {t : Bool} {e : Engine} → t ≡ false → Makes x (apart t) e e
+unfolding apart
+apart-not h = rw h made.nothing-made
+
+pub modifiers-take : (rs : List Record) → Each (λ (k : ℕ). true) (nextModifier rs)
+modifiers-take rs = record { takes = λ any. pump-takes (λ (k : ℕ). true) (modifier rs any) }

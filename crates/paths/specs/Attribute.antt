@@ -9,12 +9,10 @@ use Rattle.meaning.specs.declared.call.Hint.the-variants.{Infix}
 use Rattle.meaning.specs.declared.call.Call.the-variants.{Comments, Nl, Ws}
 use Rattle.meaning.specs.declared.answer.Refusal.the-variants.{WrongKind}
 use Rattle.meaning.specs.Plan.{Plan, nothing, make, refuse, _then_}
-use Rattle.steps.specs.declared.items.Few.{Few}
-use Rattle.steps.specs.declared.items.Few.the-variants.{Zero, One, Many}
 use Rattle.steps.specs.Stream.{Stream}
 use Rattle.steps.specs.Flow.{Flow, flow, _▸_, call, write, pump, expect, eat, is, parse}
 use Rattle.steps.specs.Loop.{loop}
-use Rattle.steps.specs.Items.{Place, place, more, begin}
+use Rattle.steps.specs.Seen.{each, lastly}
 use Rattle.paths.specs.Path.{path}
 
 -- ---- attributes, each on a line of its own
@@ -36,29 +34,25 @@ unfoldable pub modifierIn : List Record → Stream → Flow Stream
 modifierIn rs = expect rs Kind.OpenParenthesis write ▸ expect rs Kind.In write ▸ call Ws ▸ expect rs Kind.Path (path rs 64) ▸ expect rs Kind.CloseParenthesis write
 
 -- a space, where something stood before
-abbrev pub apart : Few → Plan
-apart Zero = nothing
-apart One = make Ws
-apart Many = make Ws
+unfoldable pub apart : Bool → Plan
+apart any = cond any (make Ws) nothing
 
 unfoldable pub isWord : List Record → ℕ → Bool
 isWord rs k = is rs Kind.ModifierSuper k || is rs Kind.ModifierSelf k || is rs Kind.ModifierCrate k
 
-unfoldable pub modifier : List Record → Few → RecordNo → Plan
-modifier rs before k =
+unfoldable pub modifier : List Record → Bool → RecordNo → Plan
+modifier rs any k =
     cond (isWord rs (k .0)) (parse rs (modifierWord rs) k)
     (cond (is rs Kind.ModifierIn (k .0)) (parse rs (modifierIn rs) k)
     (cond (is rs Kind.Error (k .0)) (refuse (WrongKind k))
-    (apart before then write k)))
+    (apart any then write k)))
 
-unfoldable pub modifierTurn : List Record → Place → Flow Place
-modifierTurn rs s = let a = pump (modifier rs (s .count)) (s .rest) in flow (a .plan) (place (a .rest) (s .comma) (more (s .count)))
+abbrev pub nextModifier : List Record → Bool → Stream → Flow Stream
+nextModifier rs any = pump (modifier rs any)
 
-unfoldable pub spaceEnd : Place → Flow Stream
-spaceEnd s = flow (apart (s .count)) (s .rest)
-
+-- and a space behind the last
 unfoldable pub modifierList : List Record → Stream → Flow Stream
-modifierList rs = begin ▸ loop (λ (s : Place). s .rest) (λ (k : ℕ). true) (modifierTurn rs) ▸ spaceEnd
+modifierList rs = each (λ (k : ℕ). true) (nextModifier rs) ▸ lastly apart
 
 unfoldable pub modifiers : List Record → Stream → Flow Stream
 modifiers rs = eat rs Kind.Modifiers (parse rs (modifierList rs))

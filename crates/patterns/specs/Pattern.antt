@@ -1,6 +1,6 @@
 -- Patterns, and the arguments of a function: format.rs 238 to 385, 507 to 552, 1575 to 1599. Assumes nothing.
 use Prim.Native.Nat.{ℕ, zero, suc}
-use mathlib.Core.Bool.{Bool, true, false, not, cond, _||_}
+use mathlib.Core.Bool.{Bool, true, false, not, cond}
 use mathlib.Core.List.{List}
 use Rattle.tree.specs.declared.record.Record.{Record}
 use Rattle.tree.specs.declared.record.RecordNo.{RecordNo}
@@ -9,21 +9,18 @@ use Rattle.meaning.specs.declared.call.Hint.the-variants.{Infix}
 use Rattle.meaning.specs.declared.call.Call.the-variants.{Comments, Ws}
 use Rattle.meaning.specs.declared.answer.Refusal.the-variants.{TreeDeep, WrongKind}
 use Rattle.meaning.specs.Plan.{Plan, nothing, make, refuse, _then_}
-use Rattle.steps.specs.declared.items.Few.{Few}
-use Rattle.steps.specs.declared.items.Few.the-variants.{Zero, One, Many}
 use Rattle.steps.specs.declared.remaining.Mark.the-variants.{Comma, CloseBrace}
-use Rattle.steps.specs.declared.remaining.Remaining.{Remaining}
 use Rattle.steps.specs.Stream.{Stream, nextIs}
-use Rattle.steps.specs.Flow.{Flow, flow, _▸_, plain, call, write, pump, expect, eat, is, parse}
+use Rattle.steps.specs.Flow.{Flow, flow, _▸_, plain, call, write, pump, expect, eat, ifNext, either, is, parse}
 use Rattle.steps.specs.Loop.{loop}
-use Rattle.steps.specs.Remaining.{fmt, ignore, says, remaining}
-use Rattle.steps.specs.Items.{Place, items, list, listed, suffix}
+use Rattle.steps.specs.Remaining.{Remaining, fmt, ignore, says, remaining, putRemaining}
+use Rattle.steps.specs.Items.{Few, Zero, One, Many, Place, items, list, listed, suffix}
 use Rattle.paths.specs.Path.{path}
 
 -- ---- lists of patterns
 
 unfoldable pub patOrDots : List Record → ℕ → Bool
-patOrDots rs k = is rs Kind.Pat k || is rs Kind.DotDot k
+patOrDots rs = either (is rs Kind.Pat) (is rs Kind.DotDot)
 
 unfoldable pub patItem : List Record → (RecordNo → Plan) → RecordNo → Plan
 patItem rs pat k = cond (is rs Kind.DotDot (k .0)) (write k) (pat k)
@@ -52,20 +49,20 @@ patTuple rs pat s = (eat rs Kind.Path (path rs 64) ▸ tupleRule rs pat (not (ne
 -- ---- objects
 
 unfoldable pub objectName : List Record → Stream → Flow Stream
-objectName rs s = cond (nextIs (is rs Kind.AnonymousObjectKey) s) (expect rs Kind.AnonymousObjectKey write s) ((expect rs Kind.Path (path rs 64) ▸ call Ws) s)
+objectName rs = ifNext (is rs Kind.AnonymousObjectKey) (expect rs Kind.AnonymousObjectKey write) (expect rs Kind.Path (path rs 64) ▸ call Ws)
 
 unfoldable pub isKey : List Record → ℕ → Bool
 isKey rs k = is rs Kind.ObjectKey k
 
 unfoldable pub keyOrDots : List Record → ℕ → Bool
-keyOrDots rs k = isKey rs k || is rs Kind.DotDot k
+keyOrDots rs = either (isKey rs) (is rs Kind.DotDot)
 
 -- a colon and a pattern behind a key
 unfoldable pub colonPat : List Record → (RecordNo → Plan) → Stream → Flow Stream
-colonPat rs pat s = cond (nextIs (is rs Kind.Colon) s) ((pump write ▸ call Ws ▸ expect rs Kind.Pat pat) s) (flow nothing s)
+colonPat rs pat = ifNext (is rs Kind.Colon) (pump write ▸ call Ws ▸ expect rs Kind.Pat pat) (plain nothing)
 
 unfoldable pub objectItem : List Record → (RecordNo → Plan) → Stream → Flow Stream
-objectItem rs pat s = cond (nextIs (isKey rs) s) ((pump write ▸ colonPat rs pat) s) (expect rs Kind.DotDot write s)
+objectItem rs pat = ifNext (isKey rs) (pump write ▸ colonPat rs pat) (expect rs Kind.DotDot write)
 
 unfoldable pub keyed : List Record → (RecordNo → Plan) → Remaining → Stream → Flow Stream
 keyed rs pat comma = plain (fmt comma then make Ws) ▸ objectItem rs pat
@@ -73,15 +70,15 @@ keyed rs pat comma = plain (fmt comma then make Ws) ▸ objectItem rs pat
 abbrev pub silent : Remaining → Plan
 silent comma = nothing
 
-unfoldable pub objectEnd : Place → Flow Stream
-objectEnd s = flow (ignore (s .comma) then cond (says (s .comma)) (make Ws) (make (Comments Infix))) (s .rest)
+-- behind the last key: a space, or comments where there is none
+unfoldable pub objectClosing : Remaining → Plan
+objectClosing comma = ignore comma then cond (says comma) (make Ws) (make (Comments Infix))
 
--- the brace, written as a literal where it is missing
-unfoldable pub braceEnd : List Record → Stream → Flow Stream
-braceEnd rs s = let z = remaining rs CloseBrace s in flow (z .plan then fmt (z .token)) (z .rest)
+unfoldable pub objectEnd : Place → Flow Stream
+objectEnd s = flow (objectClosing (s .comma)) (s .rest)
 
 unfoldable pub patObject : List Record → (RecordNo → Plan) → Stream → Flow Stream
-patObject rs pat = objectName rs ▸ expect rs Kind.OpenBrace write ▸ items rs (keyOrDots rs) (keyed rs pat) silent ▸ objectEnd ▸ braceEnd rs
+patObject rs pat = objectName rs ▸ expect rs Kind.OpenBrace write ▸ items rs (keyOrDots rs) (keyed rs pat) silent ▸ objectEnd ▸ putRemaining rs CloseBrace
 
 -- ---- one pattern
 

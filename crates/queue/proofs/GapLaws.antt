@@ -1,25 +1,14 @@
 -- Gaps before and behind comments, and small tests, as the code makes them. Assumes nothing.
-use mathlib.Core.Path.{_≡_, refl, sym, ap, _∙_}
-use mathlib.Core.List.{List, [], _∷_, _++_}
-use mathlib.Core.Bool.{Bool, true, false, cond}
-use Prim.Native.Nat.{ℕ, zero, suc, _+_, _<_, _≤_}
-use native.Mathlib.Omega.{arith}
-use lib.ListN.{length}
-use lib.Dec.{eqb, leb, ltb}
-use borrow.Author.Tests.{eq-eqb, ne-eqb, le-leb, lt-leb}
-use Rattle.tree.specs.declared.record.Record.{Record}
-use Rattle.tree.specs.declared.record.RecordNo.{RecordNo}
-use Rattle.meaning.specs.declared.answer.Refusal.the-variants.{Finished, NoNode}
-use Rattle.meaning.specs.declared.answer.Answer.{Answer}
-use Rattle.meaning.specs.declared.answer.Answer.the-variants.{Done, Refused}
-use Rattle.meaning.specs.Pieces.{space, breaks}
-use Rattle.meaning.specs.Collect.{orElse}
-use Rattle.meaning.specs.Release.{lineGap, spaceGap}
-use Rattle.queue.specs.declared.run.Run.{Run}
-use Rattle.queue.specs.declared.release.Way.{Way}
-use Rattle.queue.specs.declared.release.Way.the-variants.{Lines, Spaces}
-use Rattle.queue.specs.Run.{isRefused, answered, readyAnswer, readyRun, presentAnswer, presentRun}
-use Rattle.queue.specs.Passes.{gapOf, backOf}
+use Rattle.text.proofs.Base.{_≡_, refl, sym, ap, _∙_, List, [], _∷_, _++_, Bool, true, false, cond, ℕ, zero, suc, _+_, _<_, _≤_, arith, length, eqb}
+use Rattle.text.proofs.Base.{leb, ltb, eq-eqb, ne-eqb}
+use borrow.Author.Tests.{le-leb, lt-leb}
+use Rattle.tree.specs.{declared.record.Record.Record, declared.record.RecordNo.RecordNo}
+use Rattle.meaning.specs.{declared.answer.Refusal.the-variants.Finished, declared.answer.Refusal.the-variants.NoNode, declared.answer.Answer.Answer}
+use Rattle.meaning.specs.{declared.answer.Answer.the-variants.Done, declared.answer.Answer.the-variants.Refused, Pieces.space, Pieces.breaks}
+use Rattle.meaning.specs.{Collect.orElse, Release.lineGap, Release.spaceGap}
+use Rattle.queue.specs.{Run.Run, Run.isRefused, Run.answered, Run.readyAnswer, Run.readyRun, Run.presentAnswer, Run.presentRun}
+use Rattle.queue.specs.{declared.release.Way.Way, declared.release.Way.the-variants.Lines, declared.release.Way.the-variants.Spaces}
+use Rattle.queue.specs.{Passes.gapOf, Passes.backOf}
 
 pub or-else-left : (a b : ℕ) → (a ≡ 0 → ⊥) → a ≡ orElse a b
 or-else-left zero b h = absurd (h refl)

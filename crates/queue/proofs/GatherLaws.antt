@@ -1,31 +1,22 @@
 -- Collecting: what each record of the tree does to it, and the loop under way. Assumes nothing.
-use mathlib.Core.Path.{_≡_, refl, sym, ap, _∙_}
-use mathlib.Core.List.{List, [], _∷_, _++_, map, append-nil, append-assoc}
-use mathlib.Core.Bool.{Bool, true, false, cond}
-use Prim.Native.Nat.{ℕ, zero, suc, _+_, _-_, _<_, _≤_, min}
+use Rattle.text.proofs.Base.{_≡_, refl, sym, ap, _∙_, List, [], _∷_, _++_, Bool, true, false, cond, ℕ, zero, suc, _+_, _-_, _<_, _≤_, min, arith}
+use Rattle.text.proofs.Base.{length, drop, take, getD, eqb, leb}
+use mathlib.Core.List.{map, append-nil, append-assoc}
 use native.Mathlib.Nat.{min-eq-left, min-eq-right}
 use native.Mathlib.Numerals.{add-one}
-use native.Mathlib.Omega.{arith}
-use lib.ListN.{length, length-append, length-take, drop, take, getD, drop-of-length-le}
+use lib.ListN.{length-append, length-take, drop-of-length-le}
 use lib.Seq.{drop-cons, take-append-le}
-use lib.Dec.{eqb, leb}
 use borrow.Author.Tests.{leb-true, leb-false}
-use Rattle.text.specs.Span.{textOf}
-use Rattle.text.specs.Lines.{newlines}
-use Rattle.text.specs.declared.span.Span.{Span}
-use Rattle.tree.specs.declared.record.Record.{Record}
-use Rattle.tree.specs.Records.{cutRecord}
-use Rattle.tree.specs.Table.{nodeOf}
-use Rattle.meaning.specs.declared.answer.Refusal.the-variants.{QueueFull}
-use Rattle.meaning.specs.declared.answer.Answer.the-variants.{Done, Refused}
-use Rattle.meaning.specs.State.{Script, Note, Comment, queued, State, withQueue, withLines}
-use Rattle.meaning.specs.Outcome.{Outcome, refused}
-use Rattle.meaning.specs.Collect.{Entry, inner, remark, blank, stop, entryAt, entryOf, entriesFrom, Collected, full, got, before, orElse, collect, onGot, collected, gather}
-use Rattle.queue.specs.declared.run.Run.{Run}
+use Rattle.text.specs.{Span.textOf, Lines.newlines, declared.span.Span.Span}
+use Rattle.tree.specs.{declared.record.Record.Record, Records.cutRecord, Table.nodeOf}
+use Rattle.meaning.specs.{declared.answer.Refusal.Refusal, declared.answer.Refusal.the-variants.QueueFull, declared.answer.Answer.the-variants.Done}
+use Rattle.meaning.specs.{declared.answer.Answer.the-variants.Refused, State.Script, State.Note, State.Comment, State.queued, State.State}
+use Rattle.meaning.specs.{State.withQueue, State.withLines, Outcome.Outcome, Outcome.refused, Collect.Entry, Collect.inner, Collect.remark}
+use Rattle.meaning.specs.{Collect.blank, Collect.stop, Collect.entryAt, Collect.entryOf, Collect.entriesFrom, Collect.Collected, Collect.full}
+use Rattle.meaning.specs.{Collect.got, Collect.before, Collect.orElse, Collect.collect, Collect.onGot, Collect.collected, Collect.gather}
+use Rattle.queue.specs.{Run.Run, Run.answered, Run.collectedRun, View.tab, View.ringAt, View.queueOf, View.view, View.asEntry, Parts.Gathered}
+use Rattle.queue.specs.{Parts.Collects, Parts.onAnswer}
 use Rattle.queue.specs.declared.collect.Entry as entry
-use Rattle.queue.specs.Run.{answered, collectedRun}
-use Rattle.queue.specs.View.{tab, ringAt, queueOf, view, asEntry}
-use Rattle.queue.specs.Parts.{Gathered, onAnswer}
 use Rattle.queue.proofs.TabLaws.{length-tab, take-tab}
 
 -- ---- what a record is to the collector
@@ -101,17 +92,6 @@ go-end : (x : Script) (i : ℕ) (s : State) (k : State → Outcome) → length (
 unfolding gather collect
 go-end x i s k h = rw (rest-none x i h, append-nil)
 
--- a start behind the last record is as good as any other
-pub gather-min : (x : Script) (i : ℕ) (s : State) (k : State → Outcome) → gather x (min (length (x .tree)) i) s k ≡ gather x i s k
-gather-min x i s k = go (leb (length (x .tree)) i) refl
-  where
-    go : (t : Bool) → leb (length (x .tree)) i ≡ t → gather x (min (length (x .tree)) i) s k ≡ gather x i s k
-    go true e =
-        let l : length (x .tree) ≤ i = leb-true (length (x .tree)) i e in
-        let m : min (length (x .tree)) i ≡ length (x .tree) = min-eq-left l in
-        rw m (go-end x (length (x .tree)) s k (omega arith) ∙ sym (go-end x i s k l))
-    go false e = let m : min (length (x .tree)) i ≡ i = min-eq-right (omega (arith, leb-false (length (x .tree)) i e)) in rw m
-
 -- ---- the loop under way: from `from` on is as much as from i on, with what is in hand
 
 pub record Gathering (x : Script) (from : ℕ) (run : Run) (q₀ q : List ℕ) (i lines count : ℕ) : Type 0 where
@@ -160,3 +140,22 @@ module _ {x : Script} {from : ℕ} {run : Run} {q₀ q : List ℕ} {i lines coun
 
   pub gather-end : {o : Run} → length (x .tree) ≤ i → o ≡ collectedRun run lines count → Gathered x from run q₀ o q
   gather-end h eo = rw eo (record { out = λ a k. g .out k ∙ go-end x i _ k h ∙ rw a; kept = g .kept; long = refl })
+
+-- ---- over the lent words
+
+module _ {x : Script} {i lines : ℕ} {run : Run} {q q′ : List ℕ} {r : Run} where
+  pub collected-full : {e : Refusal} → r ≡ answered run (Refused e) → Gathered x i (collectedRun run lines (run .count)) q (answered (collectedRun run lines (run .count)) (Refused e)) q′ → Collects x i lines run q true r q′
+  collected-full er g = rw er (record {
+    gathered = record { out = g .out; kept = g .kept; long = refl };
+    told = λ a. refl;
+    full = λ h. refl;
+    rest = λ h. let z : _≡_ {A = ℕ} 0 1 = cc in absurd (omega arith);
+  })
+
+  pub collected-rest : {l n : ℕ} → r ≡ collectedRun run l n → Gathered x i (collectedRun run lines (run .count)) q r q′ → Collects x i lines run q false r q′
+  collected-rest er g = record {
+    gathered = g;
+    told = λ a. rw (er, a);
+    full = λ h. let z : _≡_ {A = ℕ} 0 1 = cc in absurd (omega arith);
+    rest = λ h. rw er;
+  }

@@ -7,3 +7,6 @@ pub mod ReleaseLaws
 pub mod GatherLaws
 pub mod GapLaws
 pub mod SlotLaws
+pub mod WordLaws
+pub mod MadeLaws
+pub mod OneLaws

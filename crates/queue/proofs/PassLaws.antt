@@ -1,28 +1,21 @@
 -- A release's two passes over the ring, comment by comment. Assumes nothing.
-use mathlib.Core.Path.{_≡_, refl, sym, ap, _∙_}
-use mathlib.Core.List.{List, [], _∷_, _++_, append-assoc}
-use mathlib.Core.Bool.{Bool, true, false, cond}
-use Prim.Native.Nat.{ℕ, zero, suc, _+_, _-_, _*_, _<_, _≤_}
+use Rattle.text.proofs.Base.{_≡_, refl, sym, ap, _∙_, List, [], _∷_, _++_, Bool, true, false, cond, ℕ, zero, suc, _+_, _-_, _*_, _<_, _≤_, arith}
+use Rattle.text.proofs.Base.{length, ltb, eqb, lt-ltb, le-ltb, ltb-true, ltb-false}
+use mathlib.Core.List.{append-assoc}
 use native.Mathlib.Nat.{add-zero}
-use native.Mathlib.Omega.{arith}
-use lib.ListN.{length, length-append}
+use lib.ListN.{length-append}
 use lib.Seq.{sets, length-sets}
-use lib.Dec.{ltb, eqb}
-use borrow.Author.Tests.{lt-ltb, le-ltb, ltb-true, ltb-false}
-use Rattle.meaning.specs.State.{Comment}
-use Rattle.meaning.specs.Release.{takeUntil}
-use Rattle.queue.specs.declared.release.Way.{Way}
-use Rattle.queue.specs.declared.release.Fit.{Fit}
-use Rattle.queue.specs.declared.release.Fit.the-variants.{Past, Goes}
-use Rattle.queue.specs.declared.room.Gap.{Gap}
-use Rattle.queue.specs.View.{gapBytes}
-use Rattle.queue.specs.Passes.{stopOf, frontOf, gapOf, lettersOf, bytesOn, bytesFrom, going, reach, fitOf, Measured}
+use Rattle.meaning.specs.{State.Comment, Release.takeUntil}
+use Rattle.queue.specs.{declared.release.Way.Way, declared.release.Fit.Fit, declared.release.Fit.the-variants.Past}
+use Rattle.queue.specs.{declared.release.Fit.the-variants.Goes, declared.room.Gap.Gap, View.gapBytes, Passes.stopOf, Passes.frontOf}
+use Rattle.queue.specs.{Passes.gapOf, Passes.lettersOf, Passes.bytesOn, Passes.bytesFrom, Passes.going, Passes.reach, Passes.fitOf}
+use Rattle.queue.specs.{Passes.Measured}
 use Rattle.queue.proofs.WriteLaws.{laid-length, sets-append}
 
 two-writes : (b b′ x y t : List ℕ) (len len′ : ℕ) → x ≡ y → len + length x ≡ len′ → b′ ≡ sets b len y → sets b′ len′ t ≡ sets b len (x ++ t)
 two-writes b b′ x y t len len′ e p h = cc (sets-append b x t len)
 
-going-stop : (w : Way) (c : Comment) (cs : List Comment) → stopOf w c ≡ true → going w (c ∷ cs) ≡ []
+pub going-stop : (w : Way) (c : Comment) (cs : List Comment) → stopOf w c ≡ true → going w (c ∷ cs) ≡ []
 unfolding going
 going-stop w c cs h = rw h
 

@@ -1,37 +1,26 @@
 -- A release, whole: the two passes leave what the meaning's line release or space release leaves. Assumes nothing.
-use mathlib.Core.Path.{_≡_, refl, sym, ap, _∙_}
-use mathlib.Core.List.{List, [], _∷_, _++_, append-assoc, append-nil}
-use mathlib.Core.Bool.{Bool, true, false, cond, not, _&&_}
-use Prim.Native.Nat.{ℕ, zero, suc, _+_, _-_, _*_, _%_, _<_, _≤_}
+use Rattle.text.proofs.Base.{_≡_, refl, sym, ap, _∙_, List, [], _∷_, _++_, Bool, true, false, cond, not, _&&_, ℕ, zero, suc, _+_, _-_, _*_, _%_, _<_}
+use Rattle.text.proofs.Base.{_≤_, arith, length, take, drop, ltb, eqb, lt-ltb, le-ltb, ltb-true, ltb-false}
+use mathlib.Core.List.{append-assoc, append-nil}
 use native.Mathlib.Nat.{zero-add}
-use native.Mathlib.Omega.{arith}
-use lib.ListN.{length, length-append, take, drop}
+use lib.ListN.{length-append}
 use lib.Seq.{sets}
-use lib.Dec.{ltb, eqb, eqb·suc-zero}
-use borrow.Author.Tests.{lt-ltb, le-ltb, ltb-true, ltb-false}
-use Rattle.meaning.specs.declared.answer.Refusal.the-variants.{NoRoom}
-use Rattle.meaning.specs.declared.answer.Answer.{Answer}
-use Rattle.meaning.specs.declared.answer.Answer.the-variants.{Done, Refused}
-use Rattle.meaning.specs.State.{Comment, State, withQueue, withLen}
-use Rattle.meaning.specs.Pieces.{Piece, gap, comment, bytesOf, flat, Emit, emit}
-use Rattle.meaning.specs.Outcome.{done, refused, refuseIf}
-use Rattle.meaning.specs.Release.{takeUntil, dropUntil, isNil, isEmpty, commentText, stopLine, stopSpace, lineGap, trimmed, linePieces, spaceGap, spacePieces, behindGap}
-use Rattle.meaning.specs.World.{world, result, made}
+use lib.Dec.{eqb·suc-zero}
+use Rattle.meaning.specs.{declared.answer.Refusal.the-variants.NoRoom, declared.answer.Answer.Answer, declared.answer.Answer.the-variants.Done}
+use Rattle.meaning.specs.{declared.answer.Answer.the-variants.Refused, State.Comment, State.State, State.withQueue, State.withLen, Pieces.Piece}
+use Rattle.meaning.specs.{Pieces.gap, Pieces.comment, Pieces.bytesOf, Pieces.flat, Pieces.Emit, Pieces.emit, Outcome.done, Outcome.refused}
+use Rattle.meaning.specs.{Outcome.refuseIf, Release.takeUntil, Release.dropUntil, Release.isNil, Release.isEmpty, Release.commentText}
+use Rattle.meaning.specs.{Release.stopLine, Release.stopSpace, Release.lineGap, Release.trimmed, Release.linePieces, Release.spaceGap}
+use Rattle.meaning.specs.{Release.spacePieces, Release.behindGap, World.world, World.result, World.made}
 use Rattle.meaning.proofs.Laws.{flat-append}
-use Rattle.queue.specs.declared.run.Run.{Run}
-use Rattle.queue.specs.declared.room.Gap.{Gap}
-use Rattle.queue.specs.declared.release.Way.{Way}
-use Rattle.queue.specs.declared.release.Way.the-variants.{Lines, Spaces}
-use Rattle.queue.specs.declared.release.Fit.the-variants.{Past, Goes}
-use Rattle.queue.specs.Run.{answered, letOutRun}
-use Rattle.queue.specs.View.{tab, ringAt, queueOf, view, resultOf, gapBytes}
-use Rattle.queue.specs.Passes.{releaseOf, stopOf, frontOf, backOf, bytesOn, bytesFrom, going, reach, written, fitOf, Measured}
-use Rattle.queue.specs.Parts.{Released, settles, steps}
-use Rattle.queue.proofs.WriteLaws.{sets-append, gap-length}
-use Rattle.queue.proofs.TabLaws.{length-tab, drop-tab, take-tab}
-use Rattle.queue.proofs.RingLaws.{head-mod}
-use Rattle.queue.proofs.StepLaws.{open-steps}
-use Rattle.queue.proofs.PassLaws.{fit-goes, fit-past}
+use Rattle.queue.specs.{Run.Run, Run.isRefused, Run.answered, Run.letOutRun, declared.room.Gap.Gap, declared.release.Way.Way}
+use Rattle.queue.specs.{declared.release.Way.the-variants.Lines, declared.release.Way.the-variants.Spaces}
+use Rattle.queue.specs.{declared.release.Fit.the-variants.Past, declared.release.Fit.the-variants.Goes, View.tab, View.ringAt, View.queueOf}
+use Rattle.queue.specs.{View.view, View.resultOf, View.gapBytes, View.Laid, Passes.releaseOf, Passes.stopOf, Passes.frontOf, Passes.backOf}
+use Rattle.queue.specs.{Passes.bytesOn, Passes.bytesFrom, Passes.going, Passes.reach, Passes.written, Passes.fitOf, Passes.Measured}
+use Rattle.queue.specs.{Parts.LetsOut, Parts.settles, Parts.steps}
+use Rattle.queue.proofs.{WriteLaws.sets-append, WriteLaws.gap-length, TabLaws.length-tab, TabLaws.drop-tab, TabLaws.take-tab}
+use Rattle.queue.proofs.{RingLaws.head-mod, StepLaws.open-steps, PassLaws.fit-goes, PassLaws.fit-past}
 
 -- ---- the flag that the output is empty is a test of its length
 
@@ -154,11 +143,11 @@ module _ (src : List ℕ) (w : Way) (q : List ℕ) (run : Run) (b : List ℕ) (o
   steps-are : steps (λ cap s. settles cap s (releaseOf src w s) (λ s′. s′)) (resultOf run q b) ≡ made (world (view run q) b) (settles (length b) (view run q) (releaseOf src w (view run q)) (λ s′. s′))
   steps-are = open-steps _ (run .answer) (world (view run q) b) open-yet
 
-  over : {o : Run} → length b < run .len + length (written src w (view run q)) → o ≡ answered run (Refused (NoRoom (run .len))) → Released src w q run b o b
-  over h e = record { out = rw e (sym (steps-are ∙ no-room src w (view run q) b (lt-ltb _ _ h))) }
+  over : {o : Run} → length b < run .len + length (written src w (view run q)) → o ≡ answered run (Refused (NoRoom (run .len))) → LetsOut src w q run b o b
+  over h e = record { out = rw e (sym (steps-are ∙ no-room src w (view run q) b (lt-ltb _ _ h))); stays = λ _. rw e }
 
   -- the first pass found no room
-  pub release-past : {o : Run} → Measured src w (run .indent) (run .len) (length b) (queueOf q (run .head) (run .count)) Past → o ≡ answered run (Refused (NoRoom (run .len))) → Released src w q run b o b
+  pub release-past : {o : Run} → Measured src w (run .indent) (run .len) (length b) (queueOf q (run .head) (run .count)) Past → o ≡ answered run (Refused (NoRoom (run .len))) → LetsOut src w q run b o b
   release-past f e =
       let g = going w (queueOf q (run .head) (run .count)) in
       let h : length b < reach src w (run .indent) (frontOf w) (run .len) (going w (queueOf q (run .head) (run .count))) = ltb-true _ _ (fit-past _ _ _ (sym (f .out))) in
@@ -182,7 +171,7 @@ module _ (src : List ℕ) (w : Way) (q : List ℕ) (run : Run) (b : List ℕ) (o
         omega (arith, reached)
 
     -- the space behind does not fit
-    pub release-over : {o : Run} → ltb (length b) (len + (g .lines + g .spaces) + 0) ≡ true → o ≡ answered run (Refused (NoRoom (run .len))) → Released src w q run b o b
+    pub release-over : {o : Run} → ltb (length b) (len + (g .lines + g .spaces) + 0) ≡ true → o ≡ answered run (Refused (NoRoom (run .len))) → LetsOut src w q run b o b
     release-over h e = over (omega (arith, ltb-true (length b) (len + (g .lines + g .spaces) + 0) h, total)) e
 
     -- there is room for the second pass
@@ -192,45 +181,53 @@ module _ (src : List ℕ) (w : Way) (q : List ℕ) (run : Run) (b : List ℕ) (o
     pub release-few : n ≤ run .count
     release-few = going-few w q (run .head) (run .count) n counted
 
-    pub release-done : {o : Run} {b1 b2 : List ℕ} → len + (g .lines + g .spaces) + 0 ≤ length b
-        → b1 ≡ sets b (run .len) (bytesFrom src w (run .indent) (frontOf w) (run .len) (queueOf q (run .head) n)) → b2 ≡ sets b1 len (gapBytes g ++ [])
-        → o ≡ letOutRun run n (len + (g .lines + g .spaces)) → Released src w q run b o b2
-    release-done {o} {b1} {b2} h h1 h2 eo =
+    pub release-done : {o : Run} {b1 b2 : List ℕ} {end : ℕ} → len + (g .lines + g .spaces) + 0 ≤ length b
+        → b1 ≡ sets b (run .len) (bytesFrom src w (run .indent) (frontOf w) (run .len) (queueOf q (run .head) n)) → Laid b1 len g [] end b2 → o ≡ letOutRun run n end
+        → LetsOut src w q run b o b2
+    release-done {o} {b1} {b2} {end} h h1 h2 eo =
+        let m : end ≡ run .len + length (written src w (view run q)) = omega (arith, h2 .end, total) in
         let y : b2 ≡ sets b (run .len) (written src w (view run q)) =
-        h2 ∙ both b b1 (bytesFrom src w (run .indent) (frontOf w) (run .len) (going w (queueOf q (run .head) (run .count)))) (backOf w (length (going w (queueOf q (run .head) (run .count))))) (gapBytes g ++ []) (run .len) len (h1 ∙ ap (λ (cs : List Comment). sets b (run .len) (bytesFrom src w (run .indent) (frontOf w) (run .len) cs)) (going-is w q (run .head) (run .count) n counted)) reached (append-nil _ ∙ behind) in
+        h2 .bytes ∙ both b b1 (bytesFrom src w (run .indent) (frontOf w) (run .len) (going w (queueOf q (run .head) (run .count)))) (backOf w (length (going w (queueOf q (run .head) (run .count))))) (gapBytes g ++ []) (run .len) len (h1 ∙ ap (λ (cs : List Comment). sets b (run .len) (bytesFrom src w (run .indent) (frontOf w) (run .len) cs)) (going-is w q (run .head) (run .count) n counted)) reached (append-nil _ ∙ behind) in
         record {
           out =
-              rw (eo, open-yet) (same-done (view run q) _ _ _ _ _ _ total (staying-is w q (run .head) (run .count) n counted) y)
+              rw (eo, open-yet) (same-done (view run q) _ _ _ _ _ _ m (staying-is w q (run .head) (run .count) n counted) y)
               ∙ sym (steps-are ∙ moved src w (view run q) b (le-ltb (length b) (run .len + length (written src w (view run q))) (omega (arith, total))));
+          stays = λ y. let z : _≡_ {A = Bool} false true = sym (rw (eo, open-yet)) ∙ y in let v : _≡_ {A = ℕ} 0 1 = cc in absurd (omega arith);
         }
       where
         both : (b b1 x y z : List ℕ) (at to : ℕ) → b1 ≡ sets b at x → to ≡ at + length x → z ≡ y → sets b1 to z ≡ sets b at (x ++ y)
         both b b1 x y z at to e1 e2 e3 = cc (sets-append b x y at)
 
--- ---- nothing waits
+-- ---- nothing goes
 
-module _ (src : List ℕ) (w : Way) (s : State) (b : List ℕ) (none : s .queue ≡ []) (inside : s .len ≤ length b) where
+module _ (src : List ℕ) (w : Way) (s : State) (b : List ℕ) (none : going w (s .queue) ≡ []) (inside : s .len ≤ length b) where
   none-written : written src w s ≡ []
-  unfolding going bytesFrom
+  unfolding bytesFrom
   none-written = rw none (by-way w)
     where
       by-way : (w : Way) → bytesFrom src w (s .indent) (frontOf w) (s .len) [] ++ backOf w 0 ≡ []
       by-way (Lines same) = refl
       by-way (Spaces front back) = refl
 
+  all-stay : dropUntil (stopOf w) (s .queue) ≡ s .queue
+  unfolding going
+  all-stay = until-drop (stopOf w) (s .queue) ∙ ap (λ (cs : List Comment). drop (length cs) (s .queue)) none
+
   idle : made (world s b) (settles (length b) s (releaseOf src w s) (λ s′. s′)) ≡ result Done (world s b)
   idle =
       let z : s .len + length (written src w s) ≡ s .len = omega (arith, ap length none-written) in
-      moved src w s b (le-ltb (length b) (s .len + length (written src w s)) (omega arith)) ∙ same-done s _ (s .len) _ (s .queue) _ b z (ap (dropUntil (stopOf w)) none ∙ sym none) (ap (sets b (s .len)) none-written)
+      moved src w s b (le-ltb (length b) (s .len + length (written src w s)) (omega arith)) ∙ same-done s _ (s .len) _ (s .queue) _ b z all-stay (ap (sets b (s .len)) none-written)
 
 -- a release changes nothing then, refused already or not
-pub release-idle : (src : List ℕ) (w : Way) (q : List ℕ) (run : Run) (b : List ℕ) → run .count ≡ 0 → run .len ≤ length b → Released src w q run b run b
-unfolding steps tab
-release-idle src w q run b h l = record { out = go (run .answer) }
+pub release-none : (src : List ℕ) (w : Way) (q : List ℕ) (run : Run) (b : List ℕ) → going w (queueOf q (run .head) (run .count)) ≡ [] → run .len ≤ length b → LetsOut src w q run b run b
+unfolding steps
+release-none src w q run b none l = record { out = go (run .answer); stays = λ _. refl }
   where
-    none : queueOf q (run .head) (run .count) ≡ []
-    none = rw h
-
     go : (a : Answer) → result a (world (view run q) b) ≡ steps (λ cap s. settles cap s (releaseOf src w s) (λ s′. s′)) (result a (world (view run q) b))
     go Done = sym (idle src w (view run q) b none l)
     go (Refused e) = refl
+
+-- nothing waits
+pub release-idle : (src : List ℕ) (w : Way) (q : List ℕ) (run : Run) (b : List ℕ) {n len : ℕ} → n ≡ run .count → n ≡ 0 → len ≡ run .len → len ≤ length b → LetsOut src w q run b run b
+unfolding going tab
+release-idle src w q run b e h k l = let z : run .count ≡ 0 = sym e ∙ h in release-none src w q run b (rw z) (omega arith)

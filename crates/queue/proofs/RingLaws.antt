@@ -1,12 +1,8 @@
 -- The ring: a comment is pushed, and the head moves on. Assumes nothing.
-use mathlib.Core.Path.{_≡_, refl, sym, ap, _∙_}
-use mathlib.Core.Bool.{Bool, true, false}
-use mathlib.Core.List.{List, [], _∷_, _++_}
-use Prim.Native.Nat.{ℕ, zero, suc, _+_, _-_, _*_, _%_, _<_, _≤_}
-use native.Mathlib.Omega.{arith}
-use lib.ListN.{length, set, getD, length-set}
+use Rattle.text.proofs.Base.{_≡_, refl, sym, ap, _∙_, Bool, true, false, List, [], _∷_, _++_, ℕ, zero, suc, _+_, _-_, _*_, _%_, _<_, _≤_, arith}
+use Rattle.text.proofs.Base.{length, getD, eqb}
+use lib.ListN.{set, length-set}
 use lib.Seq.{getD-set-same, getD-set-other}
-use lib.Dec.{eqb}
 use Rattle.tree.specs.Records.{spanOf}
 use Rattle.meaning.specs.State.{Comment}
 use Rattle.queue.specs.View.{tab, slotOf, flagOf, commentFrom, ringAt, queueOf, stored}

@@ -1,13 +1,10 @@
 -- The queue as a caller gets it: words from slot 0 on, and zero behind them. Assumes nothing.
-use mathlib.Core.Path.{_≡_, refl, sym, ap, _∙_}
-use mathlib.Core.Bool.{Bool, true, false}
-use mathlib.Core.List.{List, [], _∷_, _++_, append-assoc}
-use Prim.Native.Nat.{ℕ, zero, suc, _+_, _-_, _*_, _<_, _≤_, min}
+use Rattle.text.proofs.Base.{_≡_, refl, sym, ap, _∙_, Bool, true, false, List, [], _∷_, _++_, ℕ, zero, suc, _+_, _-_, _*_, _<_, _≤_, min, arith}
+use Rattle.text.proofs.Base.{length, take, leb}
+use mathlib.Core.List.{append-assoc}
 use native.Mathlib.Nat.{min-eq-left, min-eq-right}
-use native.Mathlib.Omega.{arith}
-use lib.ListN.{length, set, take, replicate}
+use lib.ListN.{set, replicate}
 use lib.Seq.{take-all}
-use lib.Dec.{leb}
 use borrow.Author.Tests.{leb-true, leb-false}
 use Rattle.meaning.specs.State.{Comment}
 use Rattle.queue.specs.View.{tab, flagOf, ringAt, queueOf, stored, wordsOf, slotsOf}

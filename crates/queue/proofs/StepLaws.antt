@@ -1,27 +1,14 @@
 -- Steps from a result on: a refusal stays, and an open engine goes on. Assumes nothing.
-use mathlib.Core.Path.{_≡_, refl, sym, ap, _∙_}
-use mathlib.Core.Bool.{Bool, true, false}
-use mathlib.Core.List.{List}
-use Prim.Native.Nat.{ℕ}
-use native.Mathlib.Omega.{arith}
-use lib.ListN.{length}
-use lib.Dec.{leb, ltb}
+use Rattle.text.proofs.Base.{_≡_, refl, sym, ap, _∙_, Bool, true, false, List, ℕ, arith, length, leb, ltb}
 use Rattle.tree.specs.declared.record.RecordNo.{RecordNo}
-use Rattle.meaning.specs.declared.call.Call.{Call}
-use Rattle.meaning.specs.declared.answer.Refusal.{Refusal}
-use Rattle.meaning.specs.declared.answer.Refusal.the-variants.{Finished, NoNode, NoRoom}
-use Rattle.meaning.specs.declared.answer.Answer.{Answer}
-use Rattle.meaning.specs.declared.answer.Answer.the-variants.{Done, Refused}
-use Rattle.meaning.specs.State.{Script, State}
-use Rattle.meaning.specs.Pieces.{Piece, Emit}
-use Rattle.meaning.specs.Outcome.{Outcome, done, refuseIf}
-use Rattle.meaning.specs.Calls.{act, no-node, a-node, namedBy, ifThere, step}
-use Rattle.meaning.specs.World.{World, world, capacity, Result, result, made}
-use Rattle.meaning.specs.Plan.{make, goOn, exec}
-use Rattle.queue.specs.declared.run.Run.{Run}
-use Rattle.queue.specs.Run.{isRefused, answered, movedRun, readyAnswer, readyRun, presentAnswer, presentRun}
-use Rattle.queue.specs.View.{view, resultOf}
-use Rattle.queue.specs.Parts.{steps, settles}
+use Rattle.meaning.specs.{declared.call.Call.Call, declared.answer.Refusal.Refusal, declared.answer.Refusal.the-variants.Finished}
+use Rattle.meaning.specs.{declared.answer.Refusal.the-variants.NoNode, declared.answer.Refusal.the-variants.NoRoom, declared.answer.Answer.Answer}
+use Rattle.meaning.specs.{declared.answer.Answer.the-variants.Done, declared.answer.Answer.the-variants.Refused, State.Script, State.State}
+use Rattle.meaning.specs.{Pieces.Piece, Pieces.Emit, Outcome.Outcome, Outcome.done, Outcome.refuseIf, Calls.act, Calls.no-node, Calls.a-node}
+use Rattle.meaning.specs.{Calls.namedBy, Calls.ifThere, Calls.step, World.World, World.world, World.capacity, World.Result, World.result, World.made}
+use Rattle.meaning.specs.{Plan.make, Plan.goOn, Plan.exec}
+use Rattle.queue.specs.{Run.Run, Run.isRefused, Run.answered, Run.movedRun, Run.readyAnswer, Run.readyRun, Run.presentAnswer, Run.presentRun}
+use Rattle.queue.specs.{View.view, View.resultOf, Parts.steps, Parts.settles}
 
 -- ---- open or stopped
 
@@ -32,13 +19,6 @@ is-done (Refused e) h = let z : _≡_ {A = ℕ} 0 1 = cc in absurd (omega arith)
 -- a test of `stopped`, as the code makes it
 pub goes : {a : Answer} {t : Bool} → t ≡ isRefused a → t ≡ false → a ≡ Done
 goes {a} e h = is-done a (sym e ∙ h)
-
--- a run answered as it was is the same run
-pub answered-own : (run : Run) {a : Answer} → run .answer ≡ a → answered run a ≡ run
-answered-own run h = ap (answered run) (sym h)
-
-pub moved-anew : {m a : Run} (next : Run) {n : ℕ} → m ≡ movedRun a n → a ≡ answered next Done → m ≡ movedRun (answered next Done) n
-moved-anew next {n} e f = e ∙ ap (λ (z : Run). movedRun z n) f
 
 pub open-steps : (f : ℕ → State → Outcome) (a : Answer) (w : World) → a ≡ Done → steps f (result a w) ≡ made w (f (capacity w) (w .state))
 unfolding steps
@@ -76,11 +56,6 @@ pub settle-then : (e : State → Emit) (f : State → State) (a : Answer) (w : W
 unfolding steps thenState
 settle-then e f Done w = on-room (ltb (capacity w) (e (w .state) .state .len)) (NoRoom (w .state .len)) w (e (w .state) .state) (e (w .state) .out) f
 settle-then e f (Refused r) w = refl
-
-then-none : (a : Answer) (w : World) → thenState (λ s. s) (result a w) ≡ result a w
-unfolding thenState
-then-none Done w = refl
-then-none (Refused r) w = refl
 
 -- ---- 10, then 11, before the steps of a call
 

@@ -1,18 +1,12 @@
 -- Writes into a buffer: a byte over and over, a text, a gap with a text behind it. Assumes nothing.
-use mathlib.Core.Path.{_≡_, refl, sym, ap, _∙_}
-use mathlib.Core.List.{List, [], _∷_, _++_}
-use mathlib.Core.Bool.{Bool, true, false}
-use Prim.Native.Nat.{ℕ, zero, suc, _+_, _-_, _*_, _<_, _≤_, min}
+use Rattle.text.proofs.Base.{_≡_, refl, sym, ap, _∙_, List, [], _∷_, _++_, Bool, true, false, ℕ, zero, suc, _+_, _-_, _*_, _<_, _≤_, min, arith}
+use Rattle.text.proofs.Base.{length, getD, drop, ltb, lt-ltb, le-ltb}
 use native.Mathlib.Nat.{add-zero, min-eq-left, min-eq-right}
 use native.Mathlib.Numerals.{add-one}
-use native.Mathlib.Omega.{arith}
-use lib.ListN.{length, set, getD, replicate, length-replicate, length-append, drop, drop-of-length-le}
+use lib.ListN.{set, replicate, length-replicate, length-append, drop-of-length-le}
 use lib.Seq.{sets, drop-cons}
-use lib.Dec.{ltb}
-use borrow.Author.Tests.{lt-ltb, le-ltb}
 use Rattle.meaning.specs.Pieces.{newline, space, breaks}
-use Rattle.queue.specs.declared.room.Gap.{Gap}
-use Rattle.queue.specs.View.{gapBytes}
+use Rattle.queue.specs.{declared.room.Gap.Gap, View.gapBytes}
 
 pub fill-turn : (l : List ℕ) (i e b : ℕ) → i < e → sets l i (replicate (e - i) b) ≡ sets (set l i b) (i + 1) (replicate (e - (i + 1)) b)
 fill-turn l i e b h = let q : e - i ≡ suc (e - suc i) = omega arith in rw (add-one i, q)

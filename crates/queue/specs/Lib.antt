@@ -1,5 +1,7 @@
 pub mod Run
+pub mod Words
 pub mod View
 pub mod Wording
+pub mod Loans
 pub mod Parts
 pub mod Passes

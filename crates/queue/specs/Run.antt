@@ -1,4 +1,4 @@
--- The run's changes, each of a part of it. Assumes nothing.
+-- The engine's scalars as one value, as its lent words read, and its changes, each of a part of it. Assumes nothing.
 use Prim.Native.Nat.{ℕ, _+_, _-_, _%_}
 use mathlib.Core.Bool.{Bool, true, false, not, cond, _&&_}
 use mathlib.Core.List.{List}
@@ -9,7 +9,18 @@ use Rattle.tree.specs.declared.record.RecordNo.{RecordNo}
 use Rattle.meaning.specs.declared.answer.Refusal.the-variants.{Finished, NoNode}
 use Rattle.meaning.specs.declared.answer.Answer.{Answer}
 use Rattle.meaning.specs.declared.answer.Answer.the-variants.{Done, Refused}
-use Rattle.queue.specs.declared.run.Run.{Run}
+
+-- the queue's words stand beside it: `count` comments from slot `head` on
+pub record Run : Type 0 where
+  pub answer : Answer
+  pub len : ℕ
+  pub head : ℕ
+  pub count : ℕ
+  pub lines : ℕ
+  pub useLines : Bool
+  pub ws : Bool
+  pub indent : ℕ
+  pub finished : Bool
 
 abbrev pub isRefused : Answer → Bool
 isRefused Done = false
@@ -17,38 +28,44 @@ isRefused (Refused r) = true
 
 abbrev pub answered : Run → Answer → Run
 answered r a =
-    record { answer = a; len = r .len; head = r .head; count = r .count; lines = r .lines; «use_lines» = r .«use_lines»; ws = r .ws; indent = r .indent; finished = r .finished }
+    record { answer = a; len = r .len; head = r .head; count = r .count; lines = r .lines; useLines = r .useLines; ws = r .ws; indent = r .indent; finished = r .finished }
 
 abbrev pub movedRun : Run → ℕ → Run
 movedRun r n =
-    record { answer = r .answer; len = n; head = r .head; count = r .count; lines = r .lines; «use_lines» = r .«use_lines»; ws = r .ws; indent = r .indent; finished = r .finished }
+    record { answer = r .answer; len = n; head = r .head; count = r .count; lines = r .lines; useLines = r .useLines; ws = r .ws; indent = r .indent; finished = r .finished }
 
 abbrev pub hintedRun : Run → ℕ → Bool → Bool → Run
 hintedRun r lines useLines ws =
-    record { answer = r .answer; len = r .len; head = r .head; count = r .count; lines = lines; «use_lines» = useLines; ws = ws; indent = r .indent; finished = r .finished }
+    record { answer = r .answer; len = r .len; head = r .head; count = r .count; lines = lines; useLines = useLines; ws = ws; indent = r .indent; finished = r .finished }
+
+abbrev pub wsRun : Run → Bool → Run
+wsRun r ws = hintedRun r (r .lines) (r .useLines) ws
+
+abbrev pub useLinesRun : Run → Bool → Run
+useLinesRun r useLines = hintedRun r (r .lines) useLines (r .ws)
 
 abbrev pub indentedRun : Run → ℕ → Run
 indentedRun r n =
-    record { answer = r .answer; len = r .len; head = r .head; count = r .count; lines = r .lines; «use_lines» = r .«use_lines»; ws = r .ws; indent = n; finished = r .finished }
+    record { answer = r .answer; len = r .len; head = r .head; count = r .count; lines = r .lines; useLines = r .useLines; ws = r .ws; indent = n; finished = r .finished }
 
 abbrev pub closedRun : Run → Run
 closedRun r =
-    record { answer = r .answer; len = r .len; head = r .head; count = r .count; lines = r .lines; «use_lines» = r .«use_lines»; ws = r .ws; indent = r .indent; finished = true }
+    record { answer = r .answer; len = r .len; head = r .head; count = r .count; lines = r .lines; useLines = r .useLines; ws = r .ws; indent = r .indent; finished = true }
 
 -- the first n comments gone, and the output so long
 abbrev pub letOutRun : Run → ℕ → ℕ → Run
 letOutRun r n len =
-    record { answer = r .answer; len = len; head = (r .head + n) % 256; count = r .count - n; lines = r .lines; «use_lines» = r .«use_lines»; ws = r .ws; indent = r .indent; finished = r .finished }
+    record { answer = r .answer; len = len; head = (r .head + n) % 256; count = r .count - n; lines = r .lines; useLines = r .useLines; ws = r .ws; indent = r .indent; finished = r .finished }
 
 abbrev pub collectedRun : Run → ℕ → ℕ → Run
 collectedRun r lines count =
-    record { answer = r .answer; len = r .len; head = r .head; count = count; lines = lines; «use_lines» = r .«use_lines»; ws = r .ws; indent = r .indent; finished = r .finished }
+    record { answer = r .answer; len = r .len; head = r .head; count = count; lines = lines; useLines = r .useLines; ws = r .ws; indent = r .indent; finished = r .finished }
 
 -- the hints behind a flush
 unfoldable pub flushedRun : Bool → Run → Run
 flushedRun preserve r =
-    let keep = preserve && not (r .«use_lines» && ltb 0 (r .lines)) in
-    hintedRun r (cond keep (r .lines) 0) (keep && r .«use_lines») false
+    let keep = preserve && not (r .useLines && ltb 0 (r .lines)) in
+    hintedRun r (cond keep (r .lines) 0) (keep && r .useLines) false
 
 -- refusal 10, then 11
 abbrev pub readyAnswer : Answer → Bool → ℕ → Answer

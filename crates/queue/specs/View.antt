@@ -1,9 +1,11 @@
 -- How the code's words read as the engine's state. Assumes nothing.
+use mathlib.Core.Path.{_≡_}
 use Prim.Native.Nat.{ℕ, zero, suc, _+_, _-_, _*_, _%_}
 use mathlib.Core.Bool.{Bool, true, false, cond}
 use mathlib.Core.List.{List, [], _∷_, _++_}
 use lib.ListN.{length, set, take, getD, replicate}
 use lib.Dec.{eqb}
+use lib.Seq.{sets}
 use Rattle.text.specs.declared.span.Span.{Span}
 use Rattle.tree.specs.Records.{spanOf}
 use Rattle.tree.specs.Table.{treeOf}
@@ -13,7 +15,7 @@ use Rattle.meaning.specs.Collect.{Entry, inner, remark, blank, stop}
 use Rattle.meaning.specs.World.{world, Result, result}
 use Rattle.queue.specs.declared.ring.Comment as ring
 use Rattle.queue.specs.declared.room.Gap.{Gap}
-use Rattle.queue.specs.declared.run.Run.{Run}
+use Rattle.queue.specs.Run.{Run}
 use Rattle.queue.specs.declared.collect.Entry as entry
 use Rattle.queue.specs.declared.collect.Entry.the-variants as code
 
@@ -60,7 +62,7 @@ slotsOf cs = let kept = take 256 cs in wordsOf kept ++ replicate (1024 - length 
 
 abbrev pub view : Run → List ℕ → State
 view r q =
-    record { len = r .len; queue = queueOf q (r .head) (r .count); lines = r .lines; useLines = r .«use_lines»; ws = r .ws; indent = r .indent; finished = r .finished }
+    record { len = r .len; queue = queueOf q (r .head) (r .count); lines = r .lines; useLines = r .useLines; ws = r .ws; indent = r .indent; finished = r .finished }
 
 abbrev pub resultOf : Run → List ℕ → List ℕ → Result
 resultOf r q b = result (r .answer) (world (view r q) b)
@@ -72,6 +74,11 @@ scriptOf src table = record { source = src; tree = treeOf table }
 
 abbrev pub gapBytes : Gap → List ℕ
 gapBytes g = replicate (g .lines) newline ++ replicate (g .spaces) space
+
+-- a gap and a text behind it, written from place `at` on, as far as `to`
+pub record Laid (b : List ℕ) (at : ℕ) (g : Gap) (t : List ℕ) (to : ℕ) (b′ : List ℕ) : Type 0 where
+  pub end : to ≡ at + (g .lines + g .spaces) + length t
+  pub bytes : b′ ≡ sets b at (gapBytes g ++ t)
 
 -- ---- a record's entry
 

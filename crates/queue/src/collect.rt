@@ -1,7 +1,12 @@
 // Collecting: comments behind a record go into the queue.
+use crate::formatter::Formatter;
+use crate::formatter::collected;
+use crate::formatter::count;
+use crate::formatter::head;
+use crate::formatter::refused;
 use crate::ring::Comment;
+use crate::ring::Queue;
 use crate::ring::push;
-use crate::run::Run;
 use meaning::answer::Refusal;
 use text::lines::count_newlines;
 use text::span::Span;
@@ -14,9 +19,8 @@ ghost use mathlib.Core.Path.{_≡_};
 ghost use Rattle.text.specs.Lines.{newlines};
 ghost use Rattle.text.specs.Span.{textOf};
 ghost use Rattle.meaning.specs.Collect.{entryOf, orElse};
-ghost use Rattle.queue.specs.Run.{collectedRun};
-ghost use Rattle.queue.specs.View.{asEntry, scriptOf};
-ghost use Rattle.queue.specs.Parts.{Gathered};
+ghost use Rattle.queue.specs.View.{asEntry};
+ghost use Rattle.queue.specs.Parts.{Collected};
 
 // What a record is to the collector: a composite that has children, a comment (of a line or not), white space with so many newlines, or
 // any other record, where collecting ends.
@@ -59,28 +63,22 @@ pub fn or_else(lines: u32, n: u32) -> u32
     if lines == 0 { n } else { lines }
 }
 
-fn collected(mut run: Run, lines: u32, count: u32) -> Run
-    ensures { λ r. ⌜ r ≡ collectedRun run lines count ⌝ }
-{
-    run.lines = lines;
-    run.count = count;
-    run
-}
-
-// From a record on. Where it is refused, the comments that waited before still stand in the ring.
+// From a record on, with so many newlines in hand: was it refused? Then the comments that waited before still stand in the ring.
 pub fn process_comments(
     src: &[u8],
     table: &[u32],
-    queue: &mut [u32; 1024],
-    run: Run,
+    fmt: &mut Formatter,
+    queue: &mut Queue,
     from: RecordNo,
-) -> Run
-    ensures { λ r. ⌜ Gathered (scriptOf (now (src .entry)) (now (table .entry))) (from .0) run (now (queue .entry)) r (now (queue .exit)) ⌝ }
+    before: u32,
+) -> bool
+    ensures { λ r. ⌜ Collected src table fmt queue (from .0) before r ⌝ }
 {
     let end = size(table).0;
+    let first = head(fmt);
     let mut i = from.0;
-    let mut lines = run.lines;
-    let mut count = run.count;
+    let mut lines = before;
+    let mut n = count(fmt);
     while i < end {
         let r = node(table, RecordNo(i));
         let e = entry_of(src, r);
@@ -88,19 +86,20 @@ pub fn process_comments(
             Entry::Inner => {
                 i += 1;
             }
-            Entry::Blank(n) => {
-                lines = or_else(lines, n);
+            Entry::Blank(k) => {
+                lines = or_else(lines, k);
                 i += 1;
             }
             Entry::Remark(line) => {
-                if 256 <= count {
-                    return run.refused(Refusal::QueueFull(RecordNo(i)));
+                if 256 <= n {
+                    refused(fmt, Refusal::QueueFull(RecordNo(i)));
+                    return true;
                 }
                 let span = r.span;
                 push(
                     queue,
-                    run.head,
-                    count,
+                    first,
+                    n,
                     Comment {
                         span,
                         before: lines,
@@ -108,13 +107,15 @@ pub fn process_comments(
                     },
                 );
                 lines = 0;
-                count += 1;
+                n += 1;
                 i += 1;
             }
             Entry::Stop => {
-                return collected(run, lines, count);
+                collected(fmt, lines, n);
+                return false;
             }
         }
     }
-    collected(run, lines, count)
+    collected(fmt, lines, n);
+    false
 }

@@ -1,6 +1,15 @@
 // The releases: comments from the head of the queue are let out, in two passes over the ring. The first finds how many go and how far
 // they reach, so that nothing is written where there is no room; the second writes them.
+use crate::formatter::Formatter;
+use crate::formatter::count;
+use crate::formatter::head;
+use crate::formatter::indent;
+use crate::formatter::len;
+use crate::formatter::let_out;
+use crate::formatter::refused;
+use crate::formatter::stopped;
 use crate::ring::Comment;
+use crate::ring::Queue;
 use crate::ring::comment_at;
 use crate::room::Gap;
 use crate::room::lay;
@@ -8,7 +17,7 @@ use crate::room::line_break;
 use crate::room::no_gap;
 use crate::room::one_space;
 use crate::room::passes;
-use crate::run::Run;
+use meaning::answer::Answer;
 use meaning::answer::Refusal;
 use text::lines::trimmed;
 use text::span::part;
@@ -16,10 +25,11 @@ ghost use mathlib.Core.Path.{_≡_};
 ghost use Prim.Native.Nat.{_≤_, _+_};
 ghost use lib.ListN.{length};
 ghost use lib.Dec.{eqb};
-ghost use lib.Seq.{sets};
 ghost use Rattle.queue.specs.View.{queueOf, asComment, gapBytes};
+ghost use Rattle.queue.specs.Words.{runOf};
 ghost use Rattle.queue.specs.Run.{letOutRun};
 ghost use Rattle.queue.specs.Passes.{stopOf, frontOf, gapOf, lettersOf, backOf, bytesFrom, reach, Measured};
+ghost use Rattle.queue.specs.Loans.{Wrote};
 ghost use Rattle.queue.specs.Parts.{Released};
 
 // By lines, of the same line only or not; or by spaces, with one in front or not and one behind or not.
@@ -116,22 +126,31 @@ fn gap_behind(way: Way, count: u32) -> Gap
     }
 }
 
-// The first pass.
-fn measure(src: &[u8], queue: &[u32; 1024], cap: usize, run: Run, way: Way) -> Fit
-    ensures { λ r. ⌜ Measured (now (src .entry)) way (run .indent) (run .len) cap (queueOf (now (queue .entry)) (run .head) (run .count)) r ⌝ }
+// The first pass, from an output of so many bytes on.
+fn measure(
+    src: &[u8],
+    queue: &Queue,
+    cap: usize,
+    from: usize,
+    indent: u8,
+    head: u32,
+    count: u32,
+    way: Way,
+) -> Fit
+    ensures { λ r. ⌜ Measured (now (src .entry)) way indent from cap (queueOf (now (queue .entry)) head count) r ⌝ }
 {
-    let mut len = run.len;
+    let mut len = from;
     if cap < len {
         return Fit::Past;
     }
     let mut front = in_front(way);
     let mut i: u32 = 0;
-    while i < run.count {
-        let c = comment_at(queue, run.head, i);
+    while i < count {
+        let c = comment_at(queue, head, i);
         if stops(way, c) {
             return Fit::Goes(i, len);
         }
-        let gap = gap_before(way, run.indent, front, len, c.before);
+        let gap = gap_before(way, indent, front, len, c.before);
         let t = letters(src, way, c);
         if passes(cap, len, gap, t.len()) {
             return Fit::Past;
@@ -144,65 +163,102 @@ fn measure(src: &[u8], queue: &[u32; 1024], cap: usize, run: Run, way: Way) -> F
 }
 
 // The second pass: the first n comments are written.
-fn write(src: &[u8], queue: &[u32; 1024], out: &mut [u8], run: Run, way: Way, n: u32)
-    requires { ⌜ reach (now src) way (run .indent) (frontOf way) (run .len) (queueOf (now queue) (run .head) n) ≤ length (now out) ⌝ }
-    ensures { λ _. ⌜ now (out .exit) ≡ sets (now (out .entry)) (run .len) (bytesFrom (now (src .entry)) way (run .indent) (frontOf way) (run .len) (queueOf (now (queue .entry)) (run .head) n)) ⌝ }
+fn write(
+    src: &[u8],
+    queue: &Queue,
+    out: &mut [u8],
+    from: usize,
+    indent: u8,
+    head: u32,
+    way: Way,
+    n: u32,
+)
+    requires { ⌜ reach (now src) way indent (frontOf way) from (queueOf (now queue) head n) ≤ length (now out) ⌝ }
+    ensures { λ _. ⌜ Wrote out from (bytesFrom (now (src .entry)) way indent (frontOf way) from (queueOf (now (queue .entry)) head n)) ⌝ }
 {
-    let mut len = run.len;
+    let mut len = from;
     let mut front = in_front(way);
     let mut i: u32 = 0;
     while i < n {
-        let c = comment_at(queue, run.head, i);
-        let gap = gap_before(way, run.indent, front, len, c.before);
+        let c = comment_at(queue, head, i);
+        let gap = gap_before(way, indent, front, len, c.before);
         let t = letters(src, way, c);
-        lay(out, len, gap, t);
-        len = len + (gap.lines + gap.spaces) + t.len();
+        len = lay(out, len, gap, t);
         front = true;
         i += 1;
     }
 }
 
-// The first n comments are gone, and the output is so long.
-fn let_out(mut run: Run, n: u32, len: usize) -> Run
-    requires { ⌜ n ≤ run .count ⌝ }
-    ensures { λ r. ⌜ r ≡ letOutRun run n len ⌝ }
+// The one comment that waits is measured and written at once.
+fn release_one(src: &[u8], fmt: &mut Formatter, queue: &Queue, out: &mut [u8], way: Way)
+    requires { ⌜ (runOf (now fmt) .answer ≡ Answer.Done) × (runOf (now fmt) .count ≡ 1) × (runOf (now fmt) .len ≤ length (now out)) ⌝ }
+    ensures { λ _. ⌜ Released src fmt queue out way ⌝ }
 {
-    run.len = len;
-    run.head = (((run.head as usize) + (n as usize)) % 256) as u32;
-    run.count = run.count - n;
-    run
+    let from = len(fmt);
+    let c = comment_at(queue, head(fmt), 0);
+    if stops(way, c) {
+        return;
+    }
+    let gap = gap_before(way, indent(fmt), in_front(way), from, c.before);
+    let t = letters(src, way, c);
+    if passes(out.len(), from, gap, t.len()) {
+        refused(fmt, Refusal::NoRoom(from));
+        return;
+    }
+    let back = gap_behind(way, 1);
+    if passes(
+        out.len(),
+        from + (gap.lines + gap.spaces) + t.len(),
+        back,
+        0,
+    ) {
+        refused(fmt, Refusal::NoRoom(from));
+        return;
+    }
+    let to = lay(out, from, gap, t);
+    let end = lay(out, to, back, &src[..0]);
+    let_out(fmt, 1, end);
 }
 
-// A whole release.
-pub fn release(src: &[u8], queue: &[u32; 1024], out: &mut [u8], run: Run, way: Way) -> Run
-    ensures { λ r. ⌜ Released (now (src .entry)) way (now (queue .entry)) run (now (out .entry)) r (now (out .exit)) ⌝ }
+// Both passes.
+pub fn release_waiting(src: &[u8], fmt: &mut Formatter, queue: &Queue, out: &mut [u8], way: Way)
+    ensures { λ _. ⌜ Released src fmt queue out way ⌝ }
 {
-    if run.stopped() {
-        return run;
+    if stopped(fmt) {
+        return;
     }
-    let f = measure(src, queue, out.len(), run, way);
-    match f {
-        Fit::Past => run.refused(Refusal::NoRoom(run.len)),
-        Fit::Goes(n, len) => {
-            let gap = gap_behind(way, n);
-            if passes(out.len(), len, gap, 0) {
-                return run.refused(Refusal::NoRoom(run.len));
-            }
-            write(src, queue, out, run, way, n);
-            lay(out, len, gap, &src[..0]);
-            let_out(run, n, len + (gap.lines + gap.spaces))
+    let from = len(fmt);
+    if count(fmt) == 1 {
+        if from <= out.len() {
+            release_one(src, fmt, queue, out, way);
+            return;
         }
     }
+    let deep = indent(fmt);
+    let first = head(fmt);
+    let f = measure(src, queue, out.len(), from, deep, first, count(fmt), way);
+    let Fit::Goes(n, to) = f else {
+        refused(fmt, Refusal::NoRoom(from));
+        return;
+    };
+    let gap = gap_behind(way, n);
+    if passes(out.len(), to, gap, 0) {
+        refused(fmt, Refusal::NoRoom(from));
+        return;
+    }
+    write(src, queue, out, from, deep, first, way, n);
+    let end = lay(out, to, gap, &src[..0]);
+    let_out(fmt, n, end);
 }
 
-// A release by a call that most often finds nothing waiting: then nothing changes, where the output is inside the buffer.
-pub fn release_waiting(src: &[u8], queue: &[u32; 1024], out: &mut [u8], run: Run, way: Way) -> Run
-    ensures { λ r. ⌜ Released (now (src .entry)) way (now (queue .entry)) run (now (out .entry)) r (now (out .exit)) ⌝ }
+// A release. Most often nothing waits: then nothing changes, where the output is inside the buffer.
+pub fn release(src: &[u8], fmt: &mut Formatter, queue: &Queue, out: &mut [u8], way: Way)
+    ensures { λ _. ⌜ Released src fmt queue out way ⌝ }
 {
-    if run.count == 0 {
-        if run.len <= out.len() {
-            return run.anew();
+    if count(fmt) == 0 {
+        if len(fmt) <= out.len() {
+            return;
         }
     }
-    release(src, queue, out, run, way).anew()
+    release_waiting(src, fmt, queue, out, way);
 }

@@ -7,6 +7,9 @@ ghost use Prim.Native.Nat.{_+_, _<_, _≤_, min};
 ghost use lib.ListN.{length};
 ghost use Rattle.queue.specs.View.{slotOf, flagOf, ringAt, queueOf, asComment, stored, slotsOf};
 
+// Lent beside the engine's words.
+pub type Queue = [u32; 1024];
+
 // A comment as it waits.
 pub struct Comment {
     pub span: Span,
@@ -35,7 +38,7 @@ fn flag(line: bool) -> u32
 }
 
 // The comment i places behind the head.
-pub fn comment_at(queue: &[u32; 1024], head: u32, i: u32) -> Comment
+pub fn comment_at(queue: &Queue, head: u32, i: u32) -> Comment
     ensures { λ r. ⌜ asComment r ≡ ringAt (now (queue .entry)) (head + i) ⌝ }
 {
     let p = slot(head, i);
@@ -50,7 +53,7 @@ pub fn comment_at(queue: &[u32; 1024], head: u32, i: u32) -> Comment
 }
 
 // The words of a comment at place p.
-fn store(queue: &mut [u32; 1024], p: usize, c: Comment)
+fn store(queue: &mut Queue, p: usize, c: Comment)
     requires { ⌜ p < 1021 ⌝ }
     ensures { λ _. ⌜ now (queue .exit) ≡ stored (now (queue .entry)) p (asComment c) ⌝ }
 {
@@ -62,7 +65,7 @@ fn store(queue: &mut [u32; 1024], p: usize, c: Comment)
 }
 
 // One comment more, behind the last.
-pub fn push(queue: &mut [u32; 1024], head: u32, count: u32, c: Comment)
+pub fn push(queue: &mut Queue, head: u32, count: u32, c: Comment)
     requires { ⌜ count < 256 ⌝ }
     ensures { λ _. ⌜ queueOf (now (queue .exit)) head (count + 1) ≡ queueOf (now (queue .entry)) head count ++ (asComment c ∷ []) ⌝ }
 {
@@ -77,7 +80,7 @@ fn at_most(count: u32) -> u32
 }
 
 // The queue anew, from slot 0 on, and zero behind it.
-pub fn tidy(queue: &[u32; 1024], head: u32, count: u32) -> [u32; 1024]
+pub fn tidy(queue: &Queue, head: u32, count: u32) -> [u32; 1024]
     ensures { λ r. ⌜ r ≡ slotsOf (queueOf (now (queue .entry)) head count) ⌝ }
 {
     let n = at_most(count);

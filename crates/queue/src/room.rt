@@ -1,13 +1,13 @@
 // The lent buffer: is there room, and the writing itself. Only `fill`, `copy` and `lay` ask for room; their callers have tested it.
 ghost use mathlib.Core.Path.{_≡_};
 ghost use mathlib.Core.Bool.{false};
-ghost use mathlib.Core.List.{_∷_, [], _++_};
+ghost use mathlib.Core.List.{_∷_, []};
 ghost use Prim.Native.Nat.{_+_, _≤_};
 ghost use lib.ListN.{length, replicate};
 ghost use lib.Seq.{sets};
 ghost use lib.Dec.{ltb};
 ghost use Rattle.meaning.specs.Pieces.{space, breaks};
-ghost use Rattle.queue.specs.View.{gapBytes};
+ghost use Rattle.queue.specs.View.{gapBytes, Laid};
 
 // White space in front of a text: newlines, then spaces.
 pub struct Gap {
@@ -88,12 +88,14 @@ fn copy(out: &mut [u8], at: usize, t: &[u8])
     }
 }
 
-// A gap, and the text behind it.
-pub fn lay(out: &mut [u8], at: usize, gap: Gap, t: &[u8])
+// A gap, and the text behind it: where it ends.
+pub fn lay(out: &mut [u8], at: usize, gap: Gap, t: &[u8]) -> usize
     requires { ⌜ at + (gap .lines + gap .spaces) + length (now t) ≤ length (now out) ⌝ }
-    ensures { λ _. ⌜ now (out .exit) ≡ sets (now (out .entry)) at (gapBytes gap ++ now (t .entry)) ⌝ }
+    ensures { λ to. ⌜ Laid (now (out .entry)) at gap (now (t .entry)) to (now (out .exit)) ⌝ }
 {
+    let text = at + gap.lines + gap.spaces;
     fill(out, at, gap.lines, 0x0A);
     fill(out, at + gap.lines, gap.spaces, 0x20);
-    copy(out, at + gap.lines + gap.spaces, t);
+    copy(out, text, t);
+    text + t.len()
 }

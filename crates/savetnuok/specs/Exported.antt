@@ -5,6 +5,7 @@ use mathlib.Core.Bool.{Bool, true, false, cond}
 use mathlib.Core.List.{List}
 use lib.ListN.{length}
 use lib.Dec.{eqb}
+use denote.Ref.{now}
 use Rattle.tree.specs.Records.{records}
 use Rattle.meaning.specs.declared.answer.Refusal.the-variants.{QueueFull}
 use Rattle.meaning.specs.declared.answer.Answer.{Answer}
@@ -14,6 +15,7 @@ use Rattle.meaning.specs.Opening.{scriptIn, opening}
 use Rattle.meaning.specs.Numbers.{seen}
 use Rattle.meaning.specs.World.{world, Result, result, callRecord}
 use Rattle.meaning.specs.Plan.{Plan, run}
+use Rattle.queue.specs.Loans.{Loan}
 use Rattle.format.specs.Rules.{layout}
 use Rattle.words.specs.StateBytes.{shaped, stateIn, bytesOf}
 
@@ -62,6 +64,10 @@ callResult src tree st b bytes = callRecord (thenShape (opening src tree) (shape
 abbrev pub Called : List ℕ → List ℕ → List ℕ → List ℕ → List ℕ → ℕ → List ℕ → List ℕ → Type 0
 Called src tree st b bytes n st′ b′ = Handed st (callResult src tree st b bytes) n st′ b′
 
+abbrev pub CalledOn : Loan → Loan → Loan → Loan → Loan → ℕ → Type 0
+CalledOn source tree state out bytes n =
+    Called (now (source .entry)) (now (tree .entry)) (now (state .entry)) (now (out .entry)) (now (bytes .entry)) n (now (state .exit)) (now (out .exit))
+
 -- ---- run: 1, 2, 3, 7, the shape, then whatever the run on node k meets
 
 -- the calls of the node's rule
@@ -76,3 +82,7 @@ runResult src tree st b k =
 
 abbrev pub Laid : List ℕ → List ℕ → List ℕ → List ℕ → ℕ → ℕ → List ℕ → List ℕ → Type 0
 Laid src tree st b k n st′ b′ = Handed st (runResult src tree st b k) n st′ b′
+
+abbrev pub LaidOn : Loan → Loan → Loan → Loan → ℕ → ℕ → Type 0
+LaidOn source tree state out k n =
+    Laid (now (source .entry)) (now (tree .entry)) (now (state .entry)) (now (out .entry)) k n (now (state .exit)) (now (out .exit))

@@ -16,7 +16,7 @@ use words::word::word;
 ghost use mathlib.Core.Path.{_≡_};
 ghost use mathlib.Core.Bool.{false};
 ghost use Rattle.queue.specs.Run.{isRefused};
-ghost use Rattle.savetnuok.specs.Exported.{thenShape, Opened, Called, Laid};
+ghost use Rattle.savetnuok.specs.Exported.{thenShape, Opened, CalledOn, LaidOn};
 
 // What is answered where the shape is wrong: 1, 2, 3, 7, else 5 at place 8,192.
 fn misshapen(a: Answer) -> Answer
@@ -62,7 +62,7 @@ pub extern "C" fn savetnuok_call(
     out: &mut [u8],
     bytes: &[u8],
 ) -> u64
-    ensures { λ r. ⌜ Called (now (source .entry)) (now (tree .entry)) (now (state .entry)) (now (out .entry)) (now (bytes .entry)) r (now (state .exit)) (now (out .exit)) ⌝ }
+    ensures { λ r. ⌜ CalledOn source tree state out bytes r ⌝ }
 {
     if shaped(state, out.len()) {
         let indent = word(state, 4);
@@ -88,7 +88,7 @@ pub extern "C" fn savetnuok_run(
     out: &mut [u8],
     node: u32,
 ) -> u64
-    ensures { λ r. ⌜ Laid (now (source .entry)) (now (tree .entry)) (now (state .entry)) (now (out .entry)) node r (now (state .exit)) (now (out .exit)) ⌝ }
+    ensures { λ r. ⌜ LaidOn source tree state out node r ⌝ }
 {
     if shaped(state, out.len()) {
         let indent = word(state, 4);

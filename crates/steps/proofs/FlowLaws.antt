@@ -1,89 +1,85 @@
 -- Steps one after the other, in the order of the code. Assumes nothing.
-use mathlib.Core.Path.{_≡_, refl, sym, ap, _∙_}
-use mathlib.Core.Bool.{Bool, true, false}
-use mathlib.Core.List.{List, [], _∷_}
-use Prim.Native.Nat.{ℕ}
-use native.Mathlib.Omega.{arith}
-use Rattle.tree.specs.declared.record.Record.{Record}
-use Rattle.tree.specs.declared.record.RecordNo.{RecordNo}
-use Rattle.tree.specs.declared.cursor.Found.{Found}
-use Rattle.tree.specs.declared.cursor.Found.the-variants.{At, None}
-use Rattle.queue.specs.declared.run.Run.{Run}
-use Rattle.meaning.specs.declared.answer.Refusal.{Refusal}
-use Rattle.meaning.specs.declared.answer.Answer.{Answer}
-use Rattle.meaning.specs.declared.answer.Answer.the-variants.{Done, Refused}
-use Rattle.meaning.specs.State.{Script}
-use Rattle.meaning.specs.World.{World, Result, result, capacity}
-use Rattle.meaning.specs.Plan.{Plan, nothing, make, refuse, _then_, goOn, exec, Ran}
-use Rattle.queue.specs.Run.{isRefused, answered}
-use Rattle.queue.specs.View.{resultOf}
-use Rattle.meaning.proofs.Chain as chain
-use Rattle.steps.specs.Stream.{Stream, recordsOf, Took}
-use Rattle.steps.specs.Flow.{Flow, flow, _▸_, plain, given, onFound, leftOver, parse, Flowed, Sticks}
-
--- ---- refusals
-
-module _ (e : Refusal) (run : Run) where
-  stays-for : (x : Script) (q b : List ℕ) (a : Answer) → run .answer ≡ a → isRefused a ≡ true → Ran x (refuse e) (resultOf run q b) (resultOf run q b)
-  unfolding exec
-  stays-for x q b Done h t = let z : _≡_ {A = ℕ} 0 1 = cc in absurd (omega arith)
-  stays-for x q b (Refused r) h t = record { ran = rw h }
-
-  pub stays : {t : Bool} → t ≡ isRefused (run .answer) → t ≡ true → Sticks (refuse e) run run
-  stays h t = record { ran = λ x q b. stays-for x q b (run .answer) refl (sym h ∙ t) }
-
-  gives-for : (x : Script) (q b : List ℕ) (a : Answer) → run .answer ≡ a → isRefused a ≡ false → Ran x (refuse e) (resultOf run q b) (resultOf (answered run (Refused e)) q b)
-  unfolding exec
-  gives-for x q b Done h t = record { ran = rw h }
-  gives-for x q b (Refused r) h t = let z : _≡_ {A = ℕ} 0 1 = cc in absurd (omega arith)
-
-  pub gives : {t : Bool} {r : Run} → t ≡ isRefused (run .answer) → t ≡ false → r ≡ answered run (Refused e) → Sticks (refuse e) run r
-  gives h t q = rw q (record { ran = λ x c b. gives-for x c b (run .answer) refl (sym h ∙ t) })
-
-pub sticks-as : {p p′ : Plan} {run r : Run} → p′ ≡ p → Sticks p run r → Sticks p′ run r
-sticks-as e s = rw e s
-
-pub sticks-still : {run : Run} → Sticks nothing run run
-sticks-still = record { ran = λ x q b. chain.still }
+use Rattle.text.proofs.Base.{_≡_, refl, sym, ap, _∙_, Bool, true, false, List, [], _∷_, ℕ, _≤_, _<_, length}
+use Rattle.tree.specs.{declared.record.Record.Record, declared.record.RecordNo.RecordNo, declared.cursor.Found.Found}
+use Rattle.tree.specs.{declared.cursor.Found.the-variants.At, declared.cursor.Found.the-variants.None, Cursor.foundOf}
+use Rattle.tree.proofs.Laws.{found-is, found-not}
+use Rattle.meaning.specs.{declared.answer.Refusal.Refusal, declared.answer.Refusal.the-variants.WrongKind, State.Script, Plan.Plan, Plan.nothing}
+use Rattle.meaning.specs.{Plan.refuse, Plan._then_}
+use Rattle.queue.specs.Loans.{Engine, engine, Makes, Refuses}
+use Rattle.queue.proofs.MadeLaws as made
+use Rattle.steps.specs.Stream.{Stream, recordsOf, isByte, isSome, Peeked, met, Took, takeIf, takeAny, Ate}
+use Rattle.steps.specs.Flow.{Flow, flow, _▸_, plain, given, onFound, notMet, pump, expectByte, eatByte, leftOver, parse, Goes, Got}
+use Rattle.steps.proofs.StreamLaws.{some-is, some-not, found-same, left-at, left-none, none-stays}
 
 -- ---- steps
 
--- as a plan's law, where the plan is named in another way
-pub ran-as : {x : Script} {p p′ : Plan} {r s : Result} → p ≡ p′ → Ran x p r s → Ran x p′ r s
-ran-as e h = rw (← e) h
-
--- a record that was taken or not, and the calls for either
-pub stepped : {x : Script} {s s′ : Stream} {r r′ : Result} {f : Found} (t : Stream → Took) (w : RecordNo → Plan) (p : Stream → Plan) → f ≡ t s .found → s′ ≡ t s .rest → Ran x (onFound f w (p s)) r r′ → Flowed x (λ s. given (t s) w (p s)) s r r′ s′
-stepped {s = s} t w p e h g = record { ran = ran-as (ap (λ (f : Found). onFound f w (p s)) e) g; at = h }
+infixr 50 _▹_
+pub _▹_ : {S T U : Type 0} {x : Script} {f : S → Flow T} {g : T → Flow U} {e e′ e″ : Engine} {s : S} {s′ : T} {s″ : U} → Goes x f s e e′ s′ → Goes x g s′ e′ e″ s″ → Goes x (f ▸ g) s e e″ s″
+unfolding _▸_
+_▹_ {T = T} {g = g} a b = let h = a .at in record { ran = made._▹_ (a .ran) (made.made-as (ap (λ (z : T). g z .plan) h) (b .ran)); at = b .at ∙ ap (λ (z : T). g z .rest) h }
 
 -- a plan that takes no record
-pub steady : {S : Type 0} {x : Script} {p : Plan} {r r′ : Result} {s : S} → Ran x p r r′ → Flowed x (plain p) s r r′ s
+pub steady : {S : Type 0} {x : Script} {p : Plan} {e e′ : Engine} {s : S} → Makes x p e e′ → Goes x (plain p) s e e′ s
 unfolding plain
 steady h = record { ran = h; at = refl }
 
-infixr 50 _▹_
-pub _▹_ : {S T U : Type 0} {x : Script} {f : S → Flow T} {g : T → Flow U} {r r′ r″ : Result} {s : S} {s′ : T} {s″ : U} → Flowed x f s r r′ s′ → Flowed x g s′ r′ r″ s″ → Flowed x (f ▸ g) s r r″ s″
-unfolding _▸_
-_▹_ {T = T} {g = g} a b = let h = a .at in record { ran = chain._▹_ (a .ran) (ran-as (ap (λ (z : T). g z .plan) h) (b .ran)); at = b .at ∙ ap (λ (z : T). g z .rest) h }
+-- the plan of a step that hands on nothing else
+pub kept-length : {S T : Type 0} {x : Script} {f : S → Flow T} {s : S} {w q b w′ q′ b′ : List ℕ} {s′ : T} → Goes x f s (engine w q b) (engine w′ q′ b′) s′ → length b′ ≡ length b
+kept-length h = made.keeps (h .ran)
 
--- no step changes how long the buffer is
-pub keeps : {S T : Type 0} {x : Script} {f : S → Flow T} {r r′ : Result} {s : S} {s′ : T} → Flowed x f s r r′ s′ → capacity (r′ .left) ≡ capacity (r .left)
-keeps h = chain.keeps (h .ran)
+-- ---- a record that was taken, or refused
 
--- ---- what was found
-
-module _ {x : Script} {r r′ : Result} {f : Found} (w : RecordNo → Plan) (p : Plan) where
-  pub found-at : {k : RecordNo} → f ≡ At k → Ran x (w k) r r′ → Ran x (onFound f w p) r r′
+module _ {x : Script} where
+  or-refused : (f : RecordNo → Plan) (r : Refusal) {k : RecordNo} {e e′ e″ : Engine} (g : Found) → foundOf k ≡ g → Makes x (onFound g (λ k. nothing) (refuse r)) e e′ → Makes x (f k) e′ e″ → Makes x (onFound g f (refuse r)) e e″
   unfolding onFound
-  found-at e h = rw e h
+  or-refused f r {k} (At j) q a b = rw (← found-same q) (made.nothing-then a b)
+  or-refused f r None q a b = made.behind-refusal a b
 
-  pub found-none : f ≡ None → Ran x p r r′ → Ran x (onFound f w p) r r′
-  unfolding onFound
-  found-none e h = rw e h
+  got : (t : Stream → Took) (f : RecordNo → Plan) {s s′ : Stream} {w w′ q b : List ℕ} {k : RecordNo} {e : Engine} → Got (t s) s w w′ k s′ → Makes x (f k) (engine w′ q b) e → Goes x (λ s. given (t s) f (notMet s)) s (engine w q b) e s′
+  got t f {s} {q = q} {b = b} g h = record { ran = or-refused f _ (t s .found) (g .ate .found) (g .ran .ran x q b) h; at = g .ate .rest }
+
+  pub pumped : (f : RecordNo → Plan) {s s′ : Stream} {w w′ q b : List ℕ} {k : RecordNo} {e : Engine} → Got (takeAny s) s w w′ k s′ → Makes x (f k) (engine w′ q b) e → Goes x (pump f) s (engine w q b) e s′
+  unfolding pump
+  pumped f g h = got takeAny f g h
+
+  pub expected : (rs : List Record) (kind : ℕ) (f : RecordNo → Plan) {s s′ : Stream} {w w′ q b : List ℕ} {k : RecordNo} {e : Engine} → Got (takeIf (isByte rs kind) s) s w w′ k s′ → Makes x (f k) (engine w′ q b) e → Goes x (expectByte rs kind f) s (engine w q b) e s′
+  unfolding expectByte
+  expected rs kind f g h = got (takeIf (isByte rs kind)) f g h
+
+-- ---- a record that was eaten, or not
+
+module _ {x : Script} (rs : List Record) (kind : ℕ) (f : RecordNo → Plan) {s s′ : Stream} {k : RecordNo} {t : Bool} (a : Ate (takeIf (isByte rs kind) s) k s′) (q : t ≡ isSome k) where
+  pub eaten : {e e′ : Engine} → t ≡ true → Makes x (f k) e e′ → Goes x (eatByte rs kind f) s e e′ s′
+  unfolding eatByte onFound
+  eaten h g = record { ran = rw (← a .found, found-is {k = k} (some-is q h)) g; at = a .rest }
+
+  pub eaten-not : {e : Engine} → t ≡ false → Goes x (eatByte rs kind f) s e e s′
+  unfolding eatByte onFound
+  eaten-not h = record { ran = rw (← a .found, found-not {k = k} (some-not q h)) made.nothing-made; at = a .rest }
+
+-- ---- taking it
+
+pub got-it : {t : Took} {s s′ : Stream} {w : List ℕ} {k : RecordNo} {u : Bool} → Ate t k s′ → u ≡ isSome k → u ≡ true → Got t s w w k s′
+unfolding onFound
+got-it {t} {s} {s′} {w} {k} a q h = record { ran = rw (← a .found, found-is {k = k} (some-is q h)) made.nothing-refused; ate = a }
+
+pub got-none : (want : ℕ → Bool) {s s′ : Stream} {w w′ : List ℕ} {k : RecordNo} {u : Bool} → Ate (takeIf want s) k s′ → u ≡ isSome k → u ≡ false → Refuses (notMet s′) w w′ → Got (takeIf want s) s w w′ k s′
+unfolding onFound
+got-none want {s} {s′} {w} {w′} {k} a q h r =
+    let n : takeIf want s .found ≡ None = sym (a .found) ∙ found-not (some-not q h) in
+    let e : s′ ≡ s = a .rest ∙ none-stays want s n in
+    record { ran = rw (n, ← e) r; ate = a }
 
 -- ---- a node's rule
 
 -- over the node's records, and none is left over
-pub parsed : {x : Script} (rs : List Record) (rule : Stream → Flow Stream) {k : RecordNo} {r r′ r″ : Result} {s s′ : Stream} → s ≡ recordsOf rs k → Flowed x rule s r r′ s′ → Ran x (leftOver s′) r′ r″ → Ran x (parse rs rule k) r r″
+pub parsed : {x : Script} (rs : List Record) (rule : Stream → Flow Stream) {k : RecordNo} {e : Engine} {w w′ q b : List ℕ} {s s′ : Stream} → s ≡ recordsOf rs k → Goes x rule s e (engine w q b) s′ → Refuses (leftOver s′) w w′ → Makes x (parse rs rule k) e (engine w′ q b)
 unfolding parse
-parsed rs rule {k} e f l = chain._▹_ (ran-as (ap (λ (z : Stream). rule z .plan) e) (f .ran)) (ran-as (ap leftOver (f .at ∙ ap (λ (z : Stream). rule z .rest) e)) l)
+parsed {x} rs rule {k} {q = q} {b = b} h f l = made._▹_ (made.made-as (ap (λ (z : Stream). rule z .plan) h) (f .ran)) (made.made-as (ap leftOver (f .at ∙ ap (λ (z : Stream). rule z .rest) h)) (l .ran x q b))
+
+module _ {s : Stream} {k : RecordNo} {t : Bool} (e : Peeked s k) (q : t ≡ isSome k) where
+  pub over : {w w′ : List ℕ} → t ≡ true → Refuses (refuse (WrongKind k)) w w′ → Refuses (leftOver s) w w′
+  over h r = made.refuses-as (sym (left-at e q h)) r
+
+  pub over-none : {w : List ℕ} → t ≡ false → Refuses (leftOver s) w w
+  over-none h = made.refuses-as (sym (left-none e q h)) made.nothing-refused

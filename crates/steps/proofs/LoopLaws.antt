@@ -1,16 +1,8 @@
 -- A loop under way: what is left to do from here, done now, gives what the whole gives from the start. Assumes nothing.
-use mathlib.Core.Path.{_≡_, refl, sym, ap, _∙_}
-use mathlib.Core.Bool.{Bool, true, false, cond}
-use mathlib.Core.List.{List, [], _∷_}
-use Prim.Native.Nat.{ℕ, zero, suc, _<_, _≤_}
-use native.Mathlib.Omega.{arith}
-use lib.ListN.{length}
-use Rattle.meaning.specs.State.{Script}
-use Rattle.meaning.specs.World.{Result}
-use Rattle.meaning.specs.Plan.{Plan, nothing, _then_, exec, Ran}
-use Rattle.steps.specs.Stream.{Stream, nextIn, nextIs}
-use Rattle.steps.specs.Flow.{Flow, flow, _▸_, Flowed}
-use Rattle.steps.specs.Loop.{turns, loop}
+use Rattle.text.proofs.Base.{_≡_, refl, sym, ap, _∙_, Bool, true, false, cond, List, [], _∷_, ℕ, zero, suc, _<_, _≤_, arith, length}
+use Rattle.meaning.specs.{State.Script, Plan.Plan, Plan.nothing, Plan._then_, Plan.exec}
+use Rattle.queue.specs.Loans.{Engine, reads, Makes}
+use Rattle.steps.specs.{Stream.Stream, Stream.nextIn, Stream.nextIs, Flow.Flow, Flow.flow, Flow._▸_, Flow.Goes, Loop.turns, Loop.loop}
 
 -- a turn takes a record
 pub record Falls {S : Type 0} (at : S → Stream) (want : ℕ → Bool) (turn : S → Flow S) : Type 0 where
@@ -57,32 +49,32 @@ module _ {S : Type 0} (at : S → Stream) (want : ℕ → Bool) (turn : S → Fl
       go zero q = absurd (omega (arith, l))
       go (suc n) q = rw (e, enough f n (length (at (turn s .rest) .left)) (turn s .rest) (omega (arith, l)) (omega arith)) refl
 
-pub record Going {S : Type 0} (x : Script) (at : S → Stream) (want : ℕ → Bool) (turn : S → Flow S) (s₀ : S) (r₀ : Result) (s : S) (r : Result) : Type 0 where
-  pub plan : exec x (loop at want turn s .plan) r ≡ exec x (loop at want turn s₀ .plan) r₀
+pub record Going {S : Type 0} (x : Script) (at : S → Stream) (want : ℕ → Bool) (turn : S → Flow S) (s₀ : S) (e₀ : Engine) (s : S) (e : Engine) : Type 0 where
+  pub plan : exec x (loop at want turn s .plan) (reads e) ≡ exec x (loop at want turn s₀ .plan) (reads e₀)
   pub rest : loop at want turn s .rest ≡ loop at want turn s₀ .rest
 
 module _ {S : Type 0} {x : Script} {at : S → Stream} {want : ℕ → Bool} {turn : S → Flow S} where
-  pub starts : {s : S} {r : Result} → Going x at want turn s r s r
+  pub starts : {s : S} {e : Engine} → Going x at want turn s e s e
   starts = record { plan = refl; rest = refl }
 
-  pub goes-on : {s₀ s s′ : S} {r₀ r r′ : Result} {t : Bool} → Falls at want turn → t ≡ nextIs want (at s) → t ≡ true → Flowed x turn s r r′ s′ → Going x at want turn s₀ r₀ s r → Going x at want turn s₀ r₀ s′ r′
+  pub goes-on : {s₀ s s′ : S} {e₀ e e′ : Engine} {t : Bool} → Falls at want turn → t ≡ nextIs want (at s) → t ≡ true → Goes x turn s e e′ s′ → Going x at want turn s₀ e₀ s e → Going x at want turn s₀ e₀ s′ e′
   unfolding exec _▸_
-  goes-on {s₀} {s} {s′} {r₀} {r} {r′} f e h y g =
-      let m = loop-more at want turn f s (sym e ∙ h) in
+  goes-on {s₀} {s} {s′} {e₀} {e} {e′} f q h y g =
+      let m = loop-more at want turn f s (sym q ∙ h) in
       record {
-        plan = rw (y .at, y .ran .ran) (sym (ap (λ (o : Flow S). exec x (o .plan) r) m) ∙ g .plan);
+        plan = rw (y .at, y .ran .ran .ran) (sym (ap (λ (o : Flow S). exec x (o .plan) (reads e)) m) ∙ g .plan);
         rest = rw (y .at) (sym (ap (λ (o : Flow S). o .rest) m) ∙ g .rest);
       }
 
-  pub done : {s₀ s : S} {r₀ r : Result} {t : Bool} → t ≡ nextIs want (at s) → t ≡ false → Going x at want turn s₀ r₀ s r → Flowed x (loop at want turn) s₀ r₀ r s
+  pub done : {s₀ s : S} {e₀ e : Engine} {t : Bool} → t ≡ nextIs want (at s) → t ≡ false → Going x at want turn s₀ e₀ s e → Goes x (loop at want turn) s₀ e₀ e s
   unfolding exec
-  done {s₀} {s} {r₀} {r} e h g =
-      let m = loop-stop at want turn s (sym e ∙ h) in
+  done {s₀} {s} {e₀} {e} q h g =
+      let m = loop-stop at want turn s (sym q ∙ h) in
       record {
-        ran = record { ran = sym (ap (λ (o : Flow S). exec x (o .plan) r) m) ∙ g .plan };
+        ran = record { ran = record { ran = sym (ap (λ (o : Flow S). exec x (o .plan) (reads e)) m) ∙ g .plan } };
         at = sym (ap (λ (o : Flow S). o .rest) m) ∙ g .rest;
       }
 
--- what is left falls with each turn
-pub falls : {S : Type 0} {x : Script} {at : S → Stream} {want : ℕ → Bool} {turn : S → Flow S} {s s′ : S} {r r′ : Result} {t : Bool} → Falls at want turn → t ≡ nextIs want (at s) → t ≡ true → Flowed x turn s r r′ s′ → length (at s′ .left) < length (at s .left)
-falls {at = at} {s = s} f e h y = rw (y .at) (f .less s (sym e ∙ h))
+  -- what is left falls with each turn
+  pub falls : {s s′ : S} {e e′ : Engine} {t : Bool} → Falls at want turn → t ≡ nextIs want (at s) → t ≡ true → Goes x turn s e e′ s′ → length (at s′ .left) < length (at s .left)
+  falls {s = s} f q h y = rw (y .at) (f .less s (sym q ∙ h))

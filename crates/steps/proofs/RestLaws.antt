@@ -1,73 +1,115 @@
 -- Laws of a token that may be missing. Assumes nothing.
-use mathlib.Core.Path.{_≡_, refl, sym, ap, subst, _∙_}
-use mathlib.Core.Bool.{Bool, true, false, cond, _||_}
-use mathlib.Core.List.{List}
-use Prim.Native.Nat.{ℕ}
-use Rattle.tree.specs.declared.record.Record.{Record}
-use Rattle.tree.specs.declared.record.RecordNo.{RecordNo}
-use Rattle.tree.specs.declared.cursor.Found.{Found}
-use Rattle.tree.specs.declared.cursor.Found.the-variants.{At, None}
+use Rattle.text.proofs.Base.{_≡_, refl, ap, subst, Bool, true, false, cond, List, ℕ, _≤_, _<_, arith, eqb, ltb, lt-ltb, le-ltb, eq-eqb, ne-eqb}
+use Rattle.tree.specs.{declared.record.Record.Record, declared.record.RecordNo.RecordNo}
+use Rattle.tree.proofs.Laws.{found-is, found-not}
 use Rattle.kinds.specs.Facts.{byteOf}
-use Rattle.queue.specs.declared.run.Run.{Run}
-use Rattle.meaning.specs.State.{Script}
-use Rattle.meaning.specs.World.{Result}
-use Rattle.meaning.specs.Plan.{Plan, nothing, Ran}
-use Rattle.meaning.proofs.Chain as chain
-use Rattle.steps.specs.declared.stream.Eaten.{Eaten}
+use Rattle.meaning.specs.{declared.call.Literal.Literal, declared.call.Call.the-variants.Lit, State.Script, Plan.Plan, Plan.nothing, Plan.make}
+use Rattle.meaning.specs.{Plan._then_}
+use Rattle.queue.specs.Loans.{Engine, engine, Makes, Refuses}
+use Rattle.queue.proofs.MadeLaws as made
 use Rattle.steps.specs.declared.remaining.Mark.{Mark}
-use Rattle.steps.specs.declared.remaining.Remaining.{Remaining}
-use Rattle.steps.specs.declared.remaining.Remaining.the-variants.{Missing, Present}
-use Rattle.steps.specs.Stream.{Stream, streamOf, isByte, nextIs, takeIf, Ate}
-use Rattle.steps.specs.Flow.{notMet, Sticks}
-use Rattle.steps.specs.Remaining.{tokenOf, isMark, fmt, ignore, isPresent, writeIf, writeOnlyIf, second, restIf, remaining, Rests}
-use Rattle.steps.proofs.FlowLaws.{sticks-as, sticks-still}
+use Rattle.steps.specs.declared.remaining.Remaining as code
+use Rattle.steps.specs.Stream.{Stream, no, isByte, isSome, nextIs, takeIf, Ate}
+use Rattle.steps.specs.Flow.{flow, write, ignored, notMet, Goes}
+use Rattle.steps.specs.Remaining.{Remaining, Fresh, Missing, Present, tokenOf, literalOf, isMark, fmt, ignore, says, second, restIf, remaining}
+use Rattle.steps.specs.Remaining.{putRemaining, remainingOf, Rests, RestsWith}
+use Rattle.steps.proofs.StreamLaws.{some-is, some-not}
 
-module _ (rs : List Record) (m : Mark) (s : Stream) {t : Bool} (e : t ≡ nextIs (isMark rs m) s) where
-  pub second-is : {run r : Run} → t ≡ true → Sticks (notMet s) run r → Sticks (second rs m s) run r
-  unfolding second
-  second-is h g = rw (← e, h) g
+-- ---- the number
 
-  pub second-none : {run : Run} → t ≡ false → Sticks (second rs m s) run run
-  unfolding second
-  second-none h = rw (← e, h) sticks-still
+module _ (m : Mark) (r : code.Remaining) where
+  present-is : r .0 < 8192 → remainingOf m r ≡ Present (no (r .0))
+  unfolding remainingOf
+  present-is h = rw (lt-ltb (r .0) 8192 h)
 
-module _ (rs : List Record) (m : Mark) (s : Stream) {a : Eaten} (e : Ate rs (takeIf (isMark rs m) s) a) where
-  pub rests-at : {run r : Run} {k : RecordNo} → a .found ≡ At k → Sticks (second rs m (streamOf rs (a .p))) run r → Rests rs (remaining rs m s) run (record { run = r; token = Present k; p = a .p })
-  unfolding remaining restIf
-  rests-at h g = rw (← e .rest, ← e .found, h) (record { ran = g; token = refl; rest = refl })
+  missing-is : r .0 ≡ 8192 → remainingOf m r ≡ Missing m
+  unfolding remainingOf
+  missing-is h = rw (le-ltb (r .0) 8192 (omega arith), eq-eqb (r .0) 8192 h)
 
-  pub rests-none : {run : Run} → a .found ≡ None → Rests rs (remaining rs m s) run (record { run = run; token = Missing m; p = a .p })
-  unfolding remaining restIf
-  rests-none h = rw (← e .rest, ← e .found, h) (record { ran = sticks-still; token = refl; rest = refl })
+  fresh-is : 8192 < r .0 → remainingOf m r ≡ Fresh
+  unfolding remainingOf
+  fresh-is h = rw (le-ltb (r .0) 8192 (omega arith), ne-eqb (r .0) 8192 (λ e. omega arith))
 
--- ---- by the mark's byte
+pub fresh-one : (m : Mark) {r : code.Remaining} → r ≡ record { 0 = 8193 } → remainingOf m r ≡ Fresh
+fresh-one m {r} e = fresh-is m r (rw e (omega arith))
+
+-- ---- what it says
+
+module _ (m : Mark) (r : code.Remaining) where
+  pub says-there : r .0 < 8192 → true ≡ says (remainingOf m r)
+  unfolding says
+  says-there h = rw (present-is m r h)
+
+  pub says-else : 8192 ≤ r .0 → eqb (r .0) 8192 ≡ says (remainingOf m r)
+  unfolding says remainingOf
+  says-else h = rw (le-ltb (r .0) 8192 h) (go (eqb (r .0) 8192))
+    where
+      go : (t : Bool) → t ≡ says (cond t (Missing m) Fresh)
+      go true = refl
+      go false = refl
+
+-- ---- what is done with it
+
+module _ {x : Script} (m : Mark) (r : code.Remaining) where
+  pub put-there : {e e′ : Engine} → r .0 < 8192 → Makes x (write (no (r .0))) e e′ → Makes x (fmt (remainingOf m r)) e e′
+  unfolding fmt
+  put-there h a = rw (present-is m r h) a
+
+  pub put-gone : {e e′ : Engine} {l : Literal} → r .0 ≡ 8192 → l ≡ literalOf m → Makes x (make (Lit l)) e e′ → Makes x (fmt (remainingOf m r)) e e′
+  unfolding fmt
+  put-gone h q a = rw (missing-is m r h, ← q) a
+
+  pub put-fresh : {e : Engine} → 8192 ≤ r .0 → (r .0 ≡ 8192 → ⊥) → Makes x (fmt (remainingOf m r)) e e
+  unfolding fmt
+  put-fresh l h = rw (fresh-is m r (omega arith)) made.nothing-made
+
+  pub pass-there : {e e′ : Engine} → r .0 < 8192 → Makes x (ignored (no (r .0))) e e′ → Makes x (ignore (remainingOf m r)) e e′
+  unfolding ignore
+  pass-there h a = rw (present-is m r h) a
+
+  pub pass-not : {e : Engine} → 8192 ≤ r .0 → Makes x (ignore (remainingOf m r)) e e
+  unfolding ignore remainingOf
+  pass-not {e} h = rw (le-ltb (r .0) 8192 h) (go (eqb (r .0) 8192))
+    where
+      go : (t : Bool) → Makes x (ignore (cond t (Missing m) Fresh)) e e
+      go true = made.nothing-made
+      go false = made.nothing-made
+
+-- ---- taking one
 
 module _ (rs : List Record) (m : Mark) (s : Stream) {b : ℕ} (e : b ≡ byteOf (tokenOf m)) where
-  pub mark-next : {t : Bool} → t ≡ nextIs (isByte rs b) s → t ≡ nextIs (isMark rs m) s
+  mark-next : {t : Bool} → t ≡ nextIs (isByte rs b) s → t ≡ nextIs (isMark rs m) s
   mark-next {t} h = subst (λ (b : ℕ). t ≡ nextIs (isByte rs b) s) e h
 
-  pub mark-ate : {a : Eaten} → Ate rs (takeIf (isByte rs b) s) a → Ate rs (takeIf (isMark rs m) s) a
-  mark-ate {a} h = subst (λ (b : ℕ). Ate rs (takeIf (isByte rs b) s) a) e h
+  pub second-is : {t : Bool} {w w′ : List ℕ} → t ≡ nextIs (isByte rs b) s → t ≡ true → Refuses (notMet s) w w′ → Refuses (second rs m s) w w′
+  unfolding second
+  second-is q h g = rw (← mark-next q, h) g
 
--- ---- by whether it is needed
+  pub second-none : {t : Bool} {w : List ℕ} → t ≡ nextIs (isByte rs b) s → t ≡ false → Refuses (second rs m s) w w
+  unfolding second
+  second-none q h = rw (← mark-next q, h) made.nothing-refused
 
-module _ {x : Script} {r r′ : Result} (needed : Bool) (token : Remaining) where
-  pub write-needed : needed ≡ true → Ran x (fmt token) r r′ → Ran x (writeIf needed token) r r′
-  unfolding writeIf
-  write-needed e h = rw e h
+  module _ {s′ : Stream} {k : RecordNo} {t : Bool} (a : Ate (takeIf (isByte rs b) s) k s′) (q : t ≡ isSome k) where
+    mark-ate : Ate (takeIf (isMark rs m) s) k s′
+    mark-ate = subst (λ (b : ℕ). Ate (takeIf (isByte rs b) s) k s′) e a
 
-  pub write-there : {t : Bool} → needed ≡ false → t ≡ isPresent token → t ≡ true → Ran x (fmt token) r r′ → Ran x (writeIf needed token) r r′
-  unfolding writeIf
-  write-there e p t h = rw (e, ← p, t) h
+    pub rests-at : {w w′ : List ℕ} → t ≡ true → Refuses (second rs m s′) w w′ → Rests rs m s w w′ (remainingOf m (record { 0 = k .0 })) s′
+    unfolding remaining restIf
+    rests-at h o = let a = mark-ate in record { ran = rw (← a .rest, ← a .found, found-is {k = k} (some-is q h)) o; token = rw (← a .found, found-is {k = k} (some-is q h)) (present-is m _ (some-is q h)); rest = rw (← a .rest, ← a .found, found-is {k = k} (some-is q h)) refl }
 
-pub write-not : {x : Script} {r : Result} (needed : Bool) (token : Remaining) {t : Bool} → needed ≡ false → t ≡ isPresent token → t ≡ false → Ran x (writeIf needed token) r r
-unfolding writeIf
-write-not needed token e p t = rw (e, ← p, t) chain.still
+    pub rests-none : {w : List ℕ} → t ≡ false → Rests rs m s w w (remainingOf m (record { 0 = 8192 })) s′
+    unfolding remaining restIf
+    rests-none h = let a = mark-ate in record { ran = rw (← a .found, found-not {k = k} (some-not q h)) made.nothing-refused; token = rw (← a .found, found-not {k = k} (some-not q h)) (missing-is m _ refl); rest = rw (← a .rest, ← a .found, found-not {k = k} (some-not q h)) refl }
 
-pub only-yes : {x : Script} {r r′ : Result} (wanted : Bool) (token : Remaining) → wanted ≡ true → Ran x (fmt token) r r′ → Ran x (writeOnlyIf wanted token) r r′
-unfolding writeOnlyIf
-only-yes wanted token e h = rw e h
+-- something is done behind it
+pub rests-with : {x : Script} {rs : List Record} {m : Mark} (g : Remaining → Plan) {s s′ : Stream} {w w′ q b : List ℕ} {r : Remaining} {e : Engine} → Rests rs m s w w′ r s′ → Makes x (g r) (engine w′ q b) e → RestsWith x rs m g s (engine w q b) e r s′
+rests-with {x} g {q = q} {b = b} a h = record { ran = made._▹_ (a .ran .ran x q b) (made.made-as (ap g (a .token)) h); token = a .token; rest = a .rest }
 
-pub only-no : {x : Script} {r r′ : Result} (wanted : Bool) (token : Remaining) → wanted ≡ false → Ran x (ignore token) r r′ → Ran x (writeOnlyIf wanted token) r r′
-unfolding writeOnlyIf
-only-no wanted token e h = rw e h
+pub rest-then : {x : Script} {rs : List Record} {m : Mark} (g : Remaining → Plan) {s s′ : Stream} {w w′ q b : List ℕ} {r : Remaining} {e : Engine} → Rests rs m s w w′ r s′ → Makes x (g r) (engine w′ q b) e
+    → Goes x (λ s. flow (remaining rs m s .plan then g (remaining rs m s .token)) (remaining rs m s .rest)) s (engine w q b) e s′
+rest-then g a h = let y = rests-with g a h in record { ran = y .ran; at = y .rest }
+
+-- the token is written at once
+pub put-rest : {x : Script} {rs : List Record} {m : Mark} {s s′ : Stream} {w w′ q b : List ℕ} {r : Remaining} {e : Engine} → Rests rs m s w w′ r s′ → Makes x (fmt r) (engine w′ q b) e → Goes x (putRemaining rs m) s (engine w q b) e s′
+unfolding putRemaining
+put-rest a h = rest-then fmt a h

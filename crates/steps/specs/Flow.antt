@@ -1,26 +1,22 @@
 -- A step of a rule: the calls that it makes, and where it leaves the stream, or whatever else the steps hand on. Assumes nothing.
 use mathlib.Core.Path.{_≡_}
 use Prim.Native.Nat.{ℕ}
-use mathlib.Core.Bool.{Bool, true, false, cond}
+use mathlib.Core.Bool.{Bool, true, false, cond, _||_}
 use mathlib.Core.List.{List, [], _∷_}
+use denote.Ref.{now}
 use Rattle.tree.specs.declared.record.Record.{Record}
 use Rattle.tree.specs.declared.record.RecordNo.{RecordNo}
 use Rattle.tree.specs.declared.cursor.Found.{Found}
 use Rattle.tree.specs.declared.cursor.Found.the-variants.{At, None}
-use Rattle.tree.specs.Table.{treeOf}
 use Rattle.kinds.specs.declared.Kind.{Kind}
 use Rattle.kinds.specs.Facts.{byteOf}
 use Rattle.meaning.specs.declared.call.Call.{Call}
 use Rattle.meaning.specs.declared.call.Call.the-variants.{WriteOwned, Ignore, Ws}
 use Rattle.meaning.specs.declared.answer.Refusal.the-variants.{WrongKind}
 use Rattle.meaning.specs.State.{Script}
-use Rattle.meaning.specs.World.{Result}
-use Rattle.meaning.specs.Plan.{Plan, nothing, make, refuse, _then_, Ran}
-use Rattle.queue.specs.declared.run.Run.{Run}
-use Rattle.queue.specs.View.{scriptOf, resultOf}
-use Rattle.steps.specs.declared.stream.Stream as code
-use Rattle.steps.specs.declared.stream.Walk.{Walk}
-use Rattle.steps.specs.Stream.{Stream, streamOf, recordsOf, no, isByte, met, Took, takeIf, takeAny}
+use Rattle.meaning.specs.Plan.{Plan, nothing, make, refuse, _then_}
+use Rattle.queue.specs.Loans.{Loan, script, Engine, before, after, Makes, Refuses}
+use Rattle.steps.specs.Stream.{Stream, recordsOf, no, isByte, nextIs, met, Took, takeIf, takeAny, Ate, tree, streamIn, streamOut}
 
 pub record Flow (S : Type 0) : Type 0 where
   pub plan : Plan
@@ -88,6 +84,15 @@ expect rs kind f = expectByte rs (byteOf kind) f
 abbrev pub eat : List Record → Kind → (RecordNo → Plan) → Stream → Flow Stream
 eat rs kind f = eatByte rs (byteOf kind) f
 
+-- ---- by what is next
+
+unfoldable pub ifNext : {T : Type 0} → (ℕ → Bool) → (Stream → Flow T) → (Stream → Flow T) → Stream → Flow T
+ifNext want f g s = cond (nextIs want s) (f s) (g s)
+
+-- one kind or another
+unfoldable pub either : (ℕ → Bool) → (ℕ → Bool) → ℕ → Bool
+either f g k = f k || g k
+
 -- ---- a node's rule
 
 abbrev pub leftIn : List ℕ → Plan
@@ -104,16 +109,22 @@ parse rs rule k = let f = rule (recordsOf rs k) in f .plan then leftOver (f .res
 
 -- ---- the form of a step's contract
 
--- the calls of the step f at s are made, from r to r′, and it hands on s′
-pub record Flowed {S T : Type 0} (x : Script) (f : S → Flow T) (s : S) (r r′ : Result) (s′ : T) : Type 0 where
-  pub ran : Ran x (f s .plan) r r′
+-- the calls of the step f at s are made, from e to e′, and it hands on s′
+pub record Goes {S T : Type 0} (x : Script) (f : S → Flow T) (s : S) (e e′ : Engine) (s′ : T) : Type 0 where
+  pub ran : Makes x (f s .plan) e e′
   pub at : s′ ≡ f s .rest
 
--- a plan without a call, for whatever script and buffers
-pub record Sticks (p : Plan) (run r : Run) : Type 0 where
-  pub ran : (x : Script) (q b : List ℕ) → Ran x p (resultOf run q b) (resultOf r q b)
+-- over what is lent: the step's calls are made, and the stream p stands behind it
+abbrev pub Walked : Loan → Loan → Loan → Loan → Loan → Loan → (Stream → Flow Stream) → Type 0
+Walked src table fmt queue out p f = Goes (script src table) f (streamIn table p) (before fmt queue out) (after fmt queue out) (streamOut table p)
 
--- in the code's terms: from the engine run, q, b and the stream p to w, q′, b′
-abbrev pub Walked : List ℕ → List ℕ → (List Record → Stream → Flow Stream) → Run → code.Stream → List ℕ → List ℕ → Walk → List ℕ → List ℕ → Type 0
-Walked src table rule run p q b w q′ b′ =
-    Flowed (scriptOf src table) (rule (treeOf table)) (streamOf (treeOf table) p) (resultOf run q b) (resultOf (w .run) q′ b′) (streamOf (treeOf table) (w .p))
+-- a record is taken as t says; none is refusal 8
+pub record Got (t : Took) (s : Stream) (w w′ : List ℕ) (k : RecordNo) (s′ : Stream) : Type 0 where
+  pub ran : Refuses (onFound (t .found) (λ k. nothing) (notMet s)) w w′
+  pub ate : Ate t k s′
+
+abbrev pub Pumped : Loan → Loan → Loan → RecordNo → Type 0
+Pumped table fmt p k = Got (takeAny (streamIn table p)) (streamIn table p) (now (fmt .entry)) (now (fmt .exit)) k (streamOut table p)
+
+abbrev pub Expected : Loan → Loan → Loan → ℕ → RecordNo → Type 0
+Expected table fmt p kind k = Got (takeIf (isByte (tree table) kind) (streamIn table p)) (streamIn table p) (now (fmt .entry)) (now (fmt .exit)) k (streamOut table p)

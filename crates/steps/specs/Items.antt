@@ -1,26 +1,29 @@
 -- Lists: items, each with the comma behind it. Assumes nothing.
-use Prim.Native.Nat.{ℕ}
-use mathlib.Core.Path.{_≡_}
+use Prim.Native.Nat.{ℕ, zero, suc}
 use mathlib.Core.Bool.{Bool, cond}
 use mathlib.Core.List.{List}
 use Rattle.tree.specs.declared.record.Record.{Record}
 use Rattle.tree.specs.declared.record.RecordNo.{RecordNo}
-use Rattle.tree.specs.Table.{treeOf}
 use Rattle.meaning.specs.declared.call.Hint.the-variants.{Prefix, Suffix, Infix}
 use Rattle.meaning.specs.declared.call.Call.the-variants.{Comments, Ws}
-use Rattle.queue.specs.declared.run.Run.{Run}
-use Rattle.queue.specs.View.{scriptOf, resultOf}
 use Rattle.meaning.specs.Plan.{Plan, nothing, make, _then_}
-use Rattle.steps.specs.declared.items.Few.{Few}
-use Rattle.steps.specs.declared.items.Few.the-variants.{Zero, One, Many}
-use Rattle.steps.specs.declared.items.Items as code
 use Rattle.steps.specs.declared.remaining.Mark.the-variants.{Comma}
-use Rattle.steps.specs.declared.remaining.Remaining.{Remaining}
-use Rattle.steps.specs.declared.remaining.Remaining.the-variants.{Fresh}
-use Rattle.steps.specs.Stream.{Stream, streamOf}
-use Rattle.steps.specs.Flow.{Flow, flow, _▸_, plain, pump, Flowed, Sticks}
-use Rattle.steps.specs.Remaining.{fmt, ignore, says, remaining}
+use Rattle.steps.specs.Stream.{Stream}
+use Rattle.steps.specs.Flow.{Flow, flow, _▸_, plain, pump}
+use Rattle.steps.specs.Remaining.{Remaining, Fresh, fmt, ignore, says, remaining}
 use Rattle.steps.specs.Loop.{loop}
+
+-- none, one, or more: the Rust counts on, and asks no more than this
+pub data Few : Type 0 where
+  Zero : Few
+  One : Few
+  Many : Few
+
+-- in the code, a number
+abbrev pub fewOf : ℕ → Few
+fewOf zero = Zero
+fewOf (suc zero) = One
+fewOf (suc (suc n)) = Many
 
 -- where a list stands: the records left, the comma behind the last item, how many items there were
 pub record Place : Type 0 where
@@ -31,10 +34,6 @@ pub record Place : Type 0 where
 abbrev pub place : Stream → Remaining → Few → Place
 place s c n = record { rest = s; comma = c; count = n }
 
-abbrev pub placeOf : List Record → code.Items → Place
-placeOf rs s = place (streamOf rs (s .p)) (s .comma) (s .count)
-
--- none, one, or more
 abbrev pub more : Few → Few
 more Zero = One
 more One = Many
@@ -79,19 +78,11 @@ abbrev pub suffix : Remaining → Plan
 suffix comma = make (Comments Suffix)
 
 -- the last comma is not written; comments of a list without items
+unfoldable pub closing : Remaining → Plan
+closing comma = ignore comma then cond (says comma) nothing (make (Comments Infix))
+
 unfoldable pub closed : Place → Flow Stream
-closed s = flow (ignore (s .comma) then cond (says (s .comma)) nothing (make (Comments Infix))) (s .rest)
+closed s = flow (closing (s .comma)) (s .rest)
 
 unfoldable pub list : List Record → (ℕ → Bool) → (RecordNo → Plan) → Stream → Flow Stream
 list rs want rule = items rs want (listed rule) suffix ▸ closed
-
--- ---- the form of a turn's contract
-
-abbrev pub Placed : List ℕ → List ℕ → (List Record → Place → Flow Place) → code.Items → List ℕ → List ℕ → code.Items → List ℕ → List ℕ → Type 0
-Placed src table step s q b s′ q′ b′ =
-    Flowed (scriptOf src table) (step (treeOf table)) (placeOf (treeOf table) s) (resultOf (s .run) q b) (resultOf (s′ .run) q′ b′) (placeOf (treeOf table) s′)
-
--- a step without a call
-pub record Settled (rs : List Record) (step : Place → Flow Place) (s s′ : code.Items) : Type 0 where
-  pub ran : Sticks (step (placeOf rs s) .plan) (s .run) (s′ .run)
-  pub at : placeOf rs s′ ≡ step (placeOf rs s) .rest

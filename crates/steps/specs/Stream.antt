@@ -3,15 +3,16 @@ use mathlib.Core.Path.{_≡_}
 use Prim.Native.Nat.{ℕ}
 use mathlib.Core.Bool.{Bool, true, false, cond}
 use mathlib.Core.List.{List, [], _∷_}
-use lib.Dec.{eqb}
+use lib.ListN.{getD}
+use lib.Dec.{eqb, ltb}
+use denote.Ref.{now}
 use Rattle.tree.specs.declared.record.Record.{Record}
 use Rattle.tree.specs.declared.record.RecordNo.{RecordNo}
 use Rattle.tree.specs.declared.cursor.Found.{Found}
 use Rattle.tree.specs.declared.cursor.Found.the-variants.{At, None}
-use Rattle.tree.specs.Table.{nodeOf}
-use Rattle.tree.specs.Cursor.{shown, kept, childrenOf}
-use Rattle.steps.specs.declared.stream.Stream as code
-use Rattle.steps.specs.declared.stream.Eaten.{Eaten}
+use Rattle.tree.specs.Table.{nodeOf, treeOf}
+use Rattle.tree.specs.Cursor.{foundOf, shown, kept, behind, cursorOf, childrenOf, headOf}
+use Rattle.queue.specs.Loans.{Loan}
 
 pub record Stream : Type 0 where
   pub node : RecordNo
@@ -19,10 +20,6 @@ pub record Stream : Type 0 where
 
 abbrev pub stream : RecordNo → List ℕ → Stream
 stream k ks = record { node = k; left = ks }
-
--- what the code's cursor has left
-abbrev pub streamOf : List Record → code.Stream → Stream
-streamOf rs p = stream (p .node) (kept rs (shown rs (p .rest)))
 
 -- the records of node k
 abbrev pub recordsOf : List Record → RecordNo → Stream
@@ -43,6 +40,9 @@ nextIn want (k ∷ ks) = want k
 
 abbrev pub nextIs : (ℕ → Bool) → Stream → Bool
 nextIs want s = nextIn want (s .left)
+
+abbrev pub nextOf : Stream → Found
+nextOf s = headOf (s .left)
 
 abbrev pub metIn : RecordNo → List ℕ → RecordNo
 metIn node [] = node
@@ -71,7 +71,38 @@ takeIf want s = takeIn want (s .node) (s .left)
 abbrev pub takeAny : Stream → Took
 takeAny s = takeIf (λ k. true) s
 
--- the code took what is to be taken
-pub record Ate (rs : List Record) (t : Took) (r : Eaten) : Type 0 where
-  pub found : r .found ≡ t .found
-  pub rest : streamOf rs (r .p) ≡ t .rest
+-- ---- in the code: words that are lent, and a record number that may be past the table
+
+-- the records of the table that is lent
+abbrev pub tree : Loan → List Record
+tree table = treeOf (now (table .entry))
+
+-- what is kept of a node's records behind record k and all below it, as far as `end`
+abbrev pub keptBehind : List Record → ℕ → ℕ → List ℕ
+keptBehind rs k end = kept rs (shown rs (cursorOf (behind rs k) end))
+
+-- three words: the node, the next record, the record behind the last; the next is past the table where there is none
+unfoldable pub streamAt : List Record → List ℕ → Stream
+streamAt rs w = stream (no (getD w 0 0)) (cond (ltb (getD w 1 0) 8192) (getD w 1 0 ∷ keptBehind rs (getD w 1 0) (getD w 2 0)) [])
+
+-- the stream behind record k
+abbrev pub passed : List Record → List ℕ → ℕ → Stream
+passed rs w k = stream (no (getD w 0 0)) (keptBehind rs k (getD w 2 0))
+
+abbrev pub isSome : RecordNo → Bool
+isSome k = ltb (k .0) 8192
+
+-- k is the next record
+pub record Peeked (s : Stream) (k : RecordNo) : Type 0 where
+  pub found : foundOf k ≡ nextOf s
+
+-- what was to be taken was taken
+pub record Ate (t : Took) (k : RecordNo) (s′ : Stream) : Type 0 where
+  pub found : foundOf k ≡ t .found
+  pub rest : s′ ≡ t .rest
+
+abbrev pub streamIn : Loan → Loan → Stream
+streamIn table p = streamAt (tree table) (now (p .entry))
+
+abbrev pub streamOut : Loan → Loan → Stream
+streamOut table p = streamAt (tree table) (now (p .exit))

@@ -1,6 +1,7 @@
 // A token that may be missing, as `remaining` of the Rust gives it.
 use crate::stream::Stream;
 use crate::stream::eat;
+use crate::stream::is_some;
 use crate::stream::next_is;
 use crate::stream::not_met;
 use kinds::bytes;
@@ -8,17 +9,15 @@ use meaning::call::Literal;
 use output::calls::ignore;
 use output::calls::lit;
 use output::calls::write_owned;
-use queue::run::Run;
-use tree::cursor::Found;
+use queue::formatter::Formatter;
+use queue::ring::Queue;
 use tree::record::RecordNo;
 ghost use mathlib.Core.Path.{_≡_};
 ghost use Rattle.kinds.specs.Facts.{byteOf};
-ghost use Rattle.meaning.specs.Plan.{Ran};
-ghost use Rattle.queue.specs.View.{scriptOf, resultOf};
-ghost use Rattle.tree.specs.Table.{treeOf};
-ghost use Rattle.steps.specs.Stream.{streamOf};
-ghost use Rattle.steps.specs.Flow.{Sticks};
-ghost use Rattle.steps.specs.Remaining.{tokenOf, literalOf, fmt, ignore, says, isPresent, writeIf, writeOnlyIf, second, remaining, Rests};
+ghost use Rattle.queue.specs.Loans.{Made, Refused};
+ghost use Rattle.steps.specs.Stream.{tree, streamIn};
+ghost use Rattle.steps.specs.Flow.{Walked};
+ghost use Rattle.steps.specs.Remaining.{tokenOf, literalOf, second, fmt as written, ignore, says, remainingOf, putRemaining, Rested, Tells, MadeOf};
 
 // The tokens that format.rs lets be missing.
 pub enum Mark {
@@ -28,17 +27,13 @@ pub enum Mark {
     CloseBrace,
 }
 
-// A fresh one stands before the first item of a list.
-pub enum Remaining {
-    Fresh,
-    Missing(Mark),
-    Present(RecordNo),
-}
+// The token's record, 8,192 where it is missing, 8,193 before the first item of a list.
+pub struct Remaining(pub u32);
 
-pub struct Rested {
-    pub run: Run,
-    pub token: Remaining,
-    pub p: Stream,
+pub fn fresh() -> Remaining
+    ensures { λ r. ⌜ r ≡ record { 0 = 8193 } ⌝ }
+{
+    Remaining(8193)
 }
 
 fn byte_of(mark: Mark) -> u8
@@ -64,51 +59,54 @@ fn literal_of(mark: Mark) -> Literal
 }
 
 // A second one is refused.
-fn once(table: &[u32], run: Run, p: Stream, mark: Mark) -> Run
-    ensures { λ r. ⌜ Sticks (second (treeOf (now (table .entry))) mark (streamOf (treeOf (now (table .entry))) p)) run r ⌝ }
+fn once(table: &[u32], fmt: &mut Formatter, p: &Stream, mark: Mark)
+    ensures { λ _. ⌜ Refused fmt (second (tree table) mark (streamIn table p)) ⌝ }
 {
     if next_is(table, p, byte_of(mark)) {
-        return not_met(table, run, p);
+        not_met(table, fmt, p);
     }
-    run
 }
 
 // None or one.
-pub fn take_remaining(table: &[u32], run: Run, p: Stream, mark: Mark) -> Rested
-    ensures { λ r. ⌜ Rests (treeOf (now (table .entry))) (remaining (treeOf (now (table .entry))) mark (streamOf (treeOf (now (table .entry))) p)) run r ⌝ }
+pub fn take_remaining(table: &[u32], fmt: &mut Formatter, p: &mut Stream, mark: Mark) -> Remaining
+    ensures { λ r. ⌜ Rested table fmt p mark r ⌝ }
 {
-    let t = eat(table, p, byte_of(mark));
-    let found = t.found;
-    let rest = t.p;
-    match found {
-        Found::At(k) => Rested {
-            run: once(table, run, rest, mark),
-            token: Remaining::Present(k),
-            p: rest,
-        },
-        Found::None => Rested {
-            run,
-            token: Remaining::Missing(mark),
-            p: rest,
-        },
+    let k = eat(table, p, byte_of(mark));
+    if is_some(k) {
+        once(table, fmt, p, mark);
+        return Remaining(k.0);
     }
+    Remaining(8192)
+}
+
+// What `put` and `pass` say: no for a fresh one.
+pub fn says(r: Remaining) -> bool
+    ensures { λ t. ⌜ Tells says r t ⌝ }
+{
+    if r.0 < 8192 {
+        return true;
+    }
+    r.0 == 8192
 }
 
 // The token, or the literal if it is missing.
-pub fn fmt(
+pub fn put(
     src: &[u8],
     table: &[u32],
-    queue: &mut [u32; 1024],
+    fmt: &mut Formatter,
+    queue: &mut Queue,
     out: &mut [u8],
-    run: Run,
-    token: Remaining,
-) -> Run
-    ensures { λ r. ⌜ Ran (scriptOf (now (src .entry)) (now (table .entry))) (fmt token) (resultOf run (now (queue .entry)) (now (out .entry))) (resultOf r (now (queue .exit)) (now (out .exit))) ⌝ }
+    r: Remaining,
+    mark: Mark,
+)
+    ensures { λ _. ⌜ Made src table fmt queue out (written (remainingOf mark r)) ⌝ }
 {
-    match token {
-        Remaining::Fresh => run,
-        Remaining::Missing(mark) => lit(src, table, queue, out, run, literal_of(mark)),
-        Remaining::Present(k) => write_owned(src, table, queue, out, run, k),
+    if r.0 < 8192 {
+        write_owned(src, table, fmt, queue, out, RecordNo(r.0));
+        return;
+    }
+    if r.0 == 8192 {
+        lit(src, table, fmt, queue, out, literal_of(mark));
     }
 }
 
@@ -116,76 +114,30 @@ pub fn fmt(
 pub fn pass(
     src: &[u8],
     table: &[u32],
-    queue: &mut [u32; 1024],
+    fmt: &mut Formatter,
+    queue: &mut Queue,
     out: &mut [u8],
-    run: Run,
-    token: Remaining,
-) -> Run
-    ensures { λ r. ⌜ Ran (scriptOf (now (src .entry)) (now (table .entry))) (ignore token) (resultOf run (now (queue .entry)) (now (out .entry))) (resultOf r (now (queue .exit)) (now (out .exit))) ⌝ }
+    r: Remaining,
+)
+    ensures { λ _. ⌜ MadeOf src table fmt queue out ignore r ⌝ }
 {
-    match token {
-        Remaining::Fresh => run,
-        Remaining::Missing(_) => run,
-        Remaining::Present(k) => ignore(src, table, queue, out, run, k),
+    if r.0 < 8192 {
+        ignore(src, table, fmt, queue, out, RecordNo(r.0));
     }
 }
 
-// What `fmt` and `pass` say: no for a fresh one.
-pub fn says(token: Remaining) -> bool
-    ensures { λ r. ⌜ r ≡ says token ⌝ }
-{
-    match token {
-        Remaining::Fresh => false,
-        Remaining::Missing(_) => true,
-        Remaining::Present(_) => true,
-    }
-}
-
-pub fn is_present(token: Remaining) -> bool
-    ensures { λ r. ⌜ r ≡ isPresent token ⌝ }
-{
-    match token {
-        Remaining::Fresh => false,
-        Remaining::Missing(_) => false,
-        Remaining::Present(_) => true,
-    }
-}
-
-// Written if it is needed or there.
-pub fn write_if(
+// `p.remaining(fmt, K)?.fmt(fmt)?`.
+pub fn put_remaining(
     src: &[u8],
     table: &[u32],
-    queue: &mut [u32; 1024],
+    fmt: &mut Formatter,
+    queue: &mut Queue,
     out: &mut [u8],
-    run: Run,
-    token: Remaining,
-    needed: bool,
-) -> Run
-    ensures { λ r. ⌜ Ran (scriptOf (now (src .entry)) (now (table .entry))) (writeIf needed token) (resultOf run (now (queue .entry)) (now (out .entry))) (resultOf r (now (queue .exit)) (now (out .exit))) ⌝ }
+    p: &mut Stream,
+    mark: Mark,
+)
+    ensures { λ _. ⌜ Walked src table fmt queue out p (putRemaining (tree table) mark) ⌝ }
 {
-    if needed {
-        return fmt(src, table, queue, out, run, token);
-    }
-    if is_present(token) {
-        return fmt(src, table, queue, out, run, token);
-    }
-    run
-}
-
-// `fmt` for yes, `pass` for no.
-pub fn write_only_if(
-    src: &[u8],
-    table: &[u32],
-    queue: &mut [u32; 1024],
-    out: &mut [u8],
-    run: Run,
-    token: Remaining,
-    wanted: bool,
-) -> Run
-    ensures { λ r. ⌜ Ran (scriptOf (now (src .entry)) (now (table .entry))) (writeOnlyIf wanted token) (resultOf run (now (queue .entry)) (now (out .entry))) (resultOf r (now (queue .exit)) (now (out .exit))) ⌝ }
-{
-    if wanted {
-        return fmt(src, table, queue, out, run, token);
-    }
-    pass(src, table, queue, out, run, token)
+    let r = take_remaining(table, fmt, p, mark);
+    put(src, table, fmt, queue, out, r, mark);
 }

@@ -1,260 +1,170 @@
-// The cursor of a rule over its node's records, and the steps that take of them: `peek`, `pump`, `eat`, `expect`, `one`.
+// The stream of a rule over its node's records, lent in place: `peek`, `eat`, `expect` and `pump` of the Rust's `Stream`. What is taken
+// is a record number. Where there is nothing it is past the table: the step has refused then, and behind a refusal no call does anything.
 use meaning::answer::Refusal;
-use output::calls::write_owned;
-use output::calls::ws;
-use queue::run::Run;
-use tree::cursor::Cursor;
-use tree::cursor::Found;
-use tree::cursor::children_of;
-use tree::cursor::peek;
-use tree::cursor::take;
+use queue::formatter::Formatter;
+use queue::formatter::refuse;
+use tree::cursor::behind;
+use tree::cursor::kept_from;
 use tree::record::RecordNo;
-use tree::table::node;
+use tree::table::kind_at;
 ghost use mathlib.Core.Path.{_≡_};
 ghost use mathlib.Core.Bool.{true};
 ghost use Prim.Native.Nat.{ℕ};
-ghost use Rattle.meaning.specs.Plan.{Ran, nothing, refuse};
-ghost use Rattle.queue.specs.View.{scriptOf, resultOf};
-ghost use Rattle.tree.specs.Table.{treeOf};
-ghost use Rattle.steps.specs.Stream.{streamOf, recordsOf, isByte, nextIs, met, takeIf, takeAny, Ate};
-ghost use Rattle.steps.specs.Flow.{Walked, Sticks, onFound, write, spaced, notMet, leftOver, expectByte, eatByte, pump};
+ghost use lib.ListN.{length};
+ghost use Rattle.queue.specs.Loans.{Refused};
+ghost use Rattle.steps.specs.Stream.{no, isByte, isSome, nextIs, met, takeIf, takeAny, recordsOf, tree, streamAt, Peeked, Ate, streamIn, streamOut, passed};
+ghost use Rattle.steps.specs.Flow.{notMet, leftOver, Pumped, Expected};
 
-// The records of `node` that are left.
-pub struct Stream {
-    pub node: RecordNo,
-    pub rest: Cursor,
+// Three words: the node, the next record that is no white space and no comment, and the record behind the last.
+pub type Stream = [u32; 3];
+
+const NODE: usize = 0;
+
+const NEXT: usize = 1;
+
+const END: usize = 2;
+
+// The proof learns from this loan how many words a stream has.
+fn sized(words: &[u32]) -> usize
+    ensures { λ r. ⌜ length (now (words .entry)) ≡ r ⌝ }
+{
+    words.len()
 }
 
-// What was taken, and the stream behind it.
-pub struct Eaten {
-    pub found: Found,
-    pub p: Stream,
+// No record.
+pub fn nothing() -> RecordNo
+    ensures { λ r. ⌜ r ≡ no 8192 ⌝ }
+{
+    RecordNo(8192)
 }
 
-// The engine and the stream behind a step.
-pub struct Walk {
-    pub run: Run,
-    pub p: Stream,
+pub fn is_some(k: RecordNo) -> bool
+    ensures { λ r. ⌜ r ≡ isSome k ⌝ }
+{
+    k.0 < 8192
 }
 
 // The records of node k.
 pub fn records_of(table: &[u32], k: RecordNo) -> Stream
-    ensures { λ r. ⌜ streamOf (treeOf (now (table .entry))) r ≡ recordsOf (treeOf (now (table .entry))) k ⌝ }
+    ensures { λ p. ⌜ streamAt (tree table) p ≡ recordsOf (tree table) k ⌝ }
 {
-    Stream {
-        node: k,
-        rest: children_of(table, k),
+    let end = behind(table, k);
+    if k.0 < end.0 {
+        return [k.0, kept_from(table, RecordNo(k.0 + 1), end).0, end.0];
     }
+    [k.0, 8192, end.0]
 }
 
-pub fn is_kind(table: &[u32], k: RecordNo, kind: u8) -> bool
-    ensures { λ r. ⌜ r ≡ isByte (treeOf (now (table .entry))) kind (k .0) ⌝ }
+// The node whose records these are.
+pub fn node_of(table: &[u32], p: &Stream) -> RecordNo
+    ensures { λ k. ⌜ k ≡ streamIn table p .node ⌝ }
 {
-    node(table, k).kind == kind
+    RecordNo(p[NODE])
 }
 
-// Whether the next record is of this kind.
-pub fn next_is(table: &[u32], p: Stream, kind: u8) -> bool
-    ensures { λ r. ⌜ r ≡ nextIs (isByte (treeOf (now (table .entry))) kind) (streamOf (treeOf (now (table .entry))) p) ⌝ }
+// The next record.
+pub fn peek(table: &[u32], p: &Stream) -> RecordNo
+    ensures { λ k. ⌜ Peeked (streamIn table p) k ⌝ }
 {
-    let found = peek(table, p.rest);
-    match found {
-        Found::At(k) => is_kind(table, k, kind),
-        Found::None => false,
-    }
+    RecordNo(p[NEXT])
 }
 
 // Whether there is a next record.
-pub fn has_next(table: &[u32], p: Stream) -> bool
-    ensures { λ r. ⌜ r ≡ nextIs (λ (k : ℕ). true) (streamOf (treeOf (now (table .entry))) p) ⌝ }
+pub fn has_next(table: &[u32], p: &Stream) -> bool
+    ensures { λ r. ⌜ r ≡ nextIs (λ (k : ℕ). true) (streamIn table p) ⌝ }
 {
-    let found = peek(table, p.rest);
-    match found {
-        Found::At(_) => true,
-        Found::None => false,
-    }
+    is_some(peek(table, p))
 }
 
-// The place of refusal 8: the record met, or the node where there is none.
-fn met(table: &[u32], p: Stream) -> RecordNo
-    ensures { λ r. ⌜ r ≡ met (streamOf (treeOf (now (table .entry))) p) ⌝ }
+// Whether the next record is of this kind.
+pub fn next_is(table: &[u32], p: &Stream, kind: u8) -> bool
+    ensures { λ r. ⌜ r ≡ nextIs (isByte (tree table) kind) (streamIn table p) ⌝ }
 {
-    let found = peek(table, p.rest);
-    match found {
-        Found::At(k) => k,
-        Found::None => p.node,
+    let k = peek(table, p);
+    if is_some(k) {
+        return kind_at(table, k) == kind;
     }
+    false
+}
+
+// The stream goes on behind record k.
+fn pass_over(table: &[u32], p: &mut Stream, k: RecordNo)
+    ensures { λ _. ⌜ streamOut table p ≡ passed (tree table) (now (p .entry)) (k .0) ⌝ }
+{
+    sized(p);
+    p[NEXT] = kept_from(table, behind(table, k), RecordNo(p[END])).0;
 }
 
 // The next record, whatever it is.
-pub fn take_any(table: &[u32], p: Stream) -> Eaten
-    ensures { λ r. ⌜ Ate (treeOf (now (table .entry))) (takeAny (streamOf (treeOf (now (table .entry))) p)) r ⌝ }
+pub fn take(table: &[u32], p: &mut Stream) -> RecordNo
+    ensures { λ k. ⌜ Ate (takeAny (streamIn table p)) k (streamOut table p) ⌝ }
 {
-    let t = take(table, p.rest);
-    let found = t.found;
-    let rest = t.rest;
-    let node = p.node;
-    Eaten {
-        found,
-        p: Stream { node, rest },
+    let k = peek(table, p);
+    if is_some(k) {
+        pass_over(table, p, k);
+        return k;
     }
+    k
 }
 
 // The next record, if it is of this kind.
-pub fn eat(table: &[u32], p: Stream, kind: u8) -> Eaten
-    ensures { λ r. ⌜ Ate (treeOf (now (table .entry))) (takeIf (isByte (treeOf (now (table .entry))) kind) (streamOf (treeOf (now (table .entry))) p)) r ⌝ }
+pub fn eat(table: &[u32], p: &mut Stream, kind: u8) -> RecordNo
+    ensures { λ k. ⌜ Ate (takeIf (isByte (tree table) kind) (streamIn table p)) k (streamOut table p) ⌝ }
 {
     if next_is(table, p, kind) {
-        return take_any(table, p);
+        return take(table, p);
     }
-    Eaten {
-        found: Found::None,
-        p,
-    }
+    nothing()
 }
 
-// The first refusal stays.
-pub fn refuse(run: Run, refusal: Refusal) -> Run
-    ensures { λ r. ⌜ Sticks (refuse refusal) run r ⌝ }
+// The place of refusal 8: the record met, or the node where there is none.
+fn met(table: &[u32], p: &Stream) -> RecordNo
+    ensures { λ k. ⌜ k ≡ met (streamIn table p) ⌝ }
 {
-    if run.stopped() {
-        return run;
+    let k = peek(table, p);
+    if is_some(k) {
+        return k;
     }
-    run.refused(refusal)
+    node_of(table, p)
 }
 
 // Refusal 8 at the record met.
-pub fn not_met(table: &[u32], run: Run, p: Stream) -> Run
-    ensures { λ r. ⌜ Sticks (notMet (streamOf (treeOf (now (table .entry))) p)) run r ⌝ }
+pub fn not_met(table: &[u32], fmt: &mut Formatter, p: &Stream)
+    ensures { λ _. ⌜ Refused fmt (notMet (streamIn table p)) ⌝ }
 {
-    refuse(run, Refusal::WrongKind(met(table, p)))
+    refuse(fmt, Refusal::WrongKind(met(table, p)));
+}
+
+// The next record, of any kind.
+pub fn pump(table: &[u32], fmt: &mut Formatter, p: &mut Stream) -> RecordNo
+    ensures { λ k. ⌜ Pumped table fmt p k ⌝ }
+{
+    let k = take(table, p);
+    if is_some(k) {
+        return k;
+    }
+    not_met(table, fmt, p);
+    k
+}
+
+// The next record, of this kind.
+pub fn expect(table: &[u32], fmt: &mut Formatter, p: &mut Stream, kind: u8) -> RecordNo
+    ensures { λ k. ⌜ Expected table fmt p kind k ⌝ }
+{
+    let k = eat(table, p, kind);
+    if is_some(k) {
+        return k;
+    }
+    not_met(table, fmt, p);
+    k
 }
 
 // A node's rule may leave white space and comments, nothing else.
-pub fn left_over(table: &[u32], run: Run, p: Stream) -> Run
-    ensures { λ r. ⌜ Sticks (leftOver (streamOf (treeOf (now (table .entry))) p)) run r ⌝ }
+pub fn left_over(table: &[u32], fmt: &mut Formatter, p: &Stream)
+    ensures { λ _. ⌜ Refused fmt (leftOver (streamIn table p)) ⌝ }
 {
-    let found = peek(table, p.rest);
-    match found {
-        Found::At(k) => refuse(run, Refusal::WrongKind(k)),
-        Found::None => run,
+    let k = peek(table, p);
+    if is_some(k) {
+        refuse(fmt, Refusal::WrongKind(k));
     }
-}
-
-// What was found is written; nothing found is refusal 8.
-fn write_found(
-    src: &[u8],
-    table: &[u32],
-    queue: &mut [u32; 1024],
-    out: &mut [u8],
-    run: Run,
-    p: Stream,
-    found: Found,
-) -> Run
-    ensures { λ r. ⌜ Ran (scriptOf (now (src .entry)) (now (table .entry))) (onFound found write (notMet (streamOf (treeOf (now (table .entry))) p))) (resultOf run (now (queue .entry)) (now (out .entry))) (resultOf r (now (queue .exit)) (now (out .exit))) ⌝ }
-{
-    match found {
-        Found::At(k) => write_owned(src, table, queue, out, run, k),
-        Found::None => not_met(table, run, p),
-    }
-}
-
-// `p.expect(K)?.fmt(fmt)` and `p.one(K).fmt(fmt)`.
-pub fn token(
-    src: &[u8],
-    table: &[u32],
-    queue: &mut [u32; 1024],
-    out: &mut [u8],
-    run: Run,
-    p: Stream,
-    kind: u8,
-) -> Walk
-    ensures { λ r. ⌜ Walked (now (src .entry)) (now (table .entry)) (λ rs. expectByte rs kind write) run p (now (queue .entry)) (now (out .entry)) r (now (queue .exit)) (now (out .exit)) ⌝ }
-{
-    let t = eat(table, p, kind);
-    let found = t.found;
-    let rest = t.p;
-    let run = write_found(src, table, queue, out, run, p, found);
-    Walk { run, p: rest }
-}
-
-// `p.eat(K).fmt(fmt)`.
-pub fn token_if(
-    src: &[u8],
-    table: &[u32],
-    queue: &mut [u32; 1024],
-    out: &mut [u8],
-    run: Run,
-    p: Stream,
-    kind: u8,
-) -> Walk
-    ensures { λ r. ⌜ Walked (now (src .entry)) (now (table .entry)) (λ rs. eatByte rs kind write) run p (now (queue .entry)) (now (out .entry)) r (now (queue .exit)) (now (out .exit)) ⌝ }
-{
-    let t = eat(table, p, kind);
-    let found = t.found;
-    let rest = t.p;
-    match found {
-        Found::At(k) => Walk {
-            run: write_owned(src, table, queue, out, run, k),
-            p: rest,
-        },
-        Found::None => Walk { run, p: rest },
-    }
-}
-
-// A space and what was found, if anything was.
-fn spaced_found(
-    src: &[u8],
-    table: &[u32],
-    queue: &mut [u32; 1024],
-    out: &mut [u8],
-    run: Run,
-    found: Found,
-) -> Run
-    ensures { λ r. ⌜ Ran (scriptOf (now (src .entry)) (now (table .entry))) (onFound found spaced nothing) (resultOf run (now (queue .entry)) (now (out .entry))) (resultOf r (now (queue .exit)) (now (out .exit))) ⌝ }
-{
-    match found {
-        Found::At(k) => {
-            let run = ws(src, table, queue, out, run);
-            write_owned(src, table, queue, out, run, k)
-        }
-        Found::None => run,
-    }
-}
-
-// `if let Some(n) = p.eat(K) { fmt.ws()?; n.fmt(fmt)?; }`.
-pub fn spaced_if(
-    src: &[u8],
-    table: &[u32],
-    queue: &mut [u32; 1024],
-    out: &mut [u8],
-    run: Run,
-    p: Stream,
-    kind: u8,
-) -> Walk
-    ensures { λ r. ⌜ Walked (now (src .entry)) (now (table .entry)) (λ rs. eatByte rs kind spaced) run p (now (queue .entry)) (now (out .entry)) r (now (queue .exit)) (now (out .exit)) ⌝ }
-{
-    let t = eat(table, p, kind);
-    let found = t.found;
-    let rest = t.p;
-    let run = spaced_found(src, table, queue, out, run, found);
-    Walk { run, p: rest }
-}
-
-// `p.pump()?.fmt(fmt)`.
-pub fn any(
-    src: &[u8],
-    table: &[u32],
-    queue: &mut [u32; 1024],
-    out: &mut [u8],
-    run: Run,
-    p: Stream,
-) -> Walk
-    ensures { λ r. ⌜ Walked (now (src .entry)) (now (table .entry)) (λ rs. pump write) run p (now (queue .entry)) (now (out .entry)) r (now (queue .exit)) (now (out .exit)) ⌝ }
-{
-    let t = take_any(table, p);
-    let found = t.found;
-    let rest = t.p;
-    let run = write_found(src, table, queue, out, run, p, found);
-    Walk { run, p: rest }
 }

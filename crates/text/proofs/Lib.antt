@@ -1,3 +1,4 @@
+pub mod Base
 mod Bools
 mod RangeLaws
 mod SpanLaws

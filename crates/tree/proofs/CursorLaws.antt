@@ -8,8 +8,9 @@ use native.Mathlib.Nat.{add-zero, add-suc, suc-add, le-of-lt, min-eq-left, min-e
 use native.Mathlib.Numerals.{add-one}
 use native.Mathlib.Omega.{arith}
 use lib.Dec.{ltb}
-use lib.ListN.{length, take, drop, drop-of-length-le}
-use lib.Seq.{drop-cons, drop-drop, drop-length, take-nil}
+use borrow.Author.Tests.{lt-ltb, le-ltb}
+use lib.ListN.{length, take, drop, length-drop, drop-of-length-le}
+use lib.Seq.{drop-cons, drop-drop, drop-length, take-nil, take-all}
 use Rattle.tree.specs.declared.record.RecordNo.{RecordNo}
 use Rattle.tree.specs.declared.record.Record.{Record}
 use Rattle.tree.specs.declared.cursor.Cursor.{Cursor}
@@ -18,7 +19,7 @@ use Rattle.tree.specs.declared.cursor.Found.the-variants.{At, None}
 use Rattle.tree.specs.declared.cursor.Taken.{Taken}
 use Rattle.tree.specs.Records.{cutRecord}
 use Rattle.tree.specs.Table.{nodeOf}
-use Rattle.tree.specs.Cursor.{siblings, shown, passes, kept, behind, cursorOf, childrenOf, headOf, peekOf, firstOf, takenAs, isNone, eofOf}
+use Rattle.tree.specs.Cursor.{foundOf, siblings, shown, passes, kept, behind, cursorOf, childrenOf, headOf, peekOf, firstOf, takenAs, isNone, eofOf}
 use Rattle.tree.proofs.Bools.{le-or-lt}
 use Rattle.tree.proofs.LevelLaws.{drop-take}
 
@@ -33,6 +34,14 @@ module _ (rs : List Record) where
     pub behind-out : n ≤ k + 1 + r .below → n ≡ behind rs k
     unfolding behind
     behind-out h = sym (rw (← read, ← all, ← add-one k) (min-eq-left h))
+
+    pub behind-leaf : r .below ≡ 0 → k < n → k + 1 ≡ behind rs k
+    unfolding behind
+    behind-leaf z h = sym (rw (← read, z, ← all) (omega arith))
+
+    pub behind-none : n ≤ k → n ≡ behind rs k
+    unfolding behind
+    behind-none h = sym (rw (← read, ← all) (omega arith))
 
   pub behind-le : (k : ℕ) → (behind rs k ≤ length rs) × (k < length rs → k < behind rs k)
   unfolding behind
@@ -64,6 +73,19 @@ module _ (rs : List Record) (c : Cursor) where
   pub shown-out : length rs ≤ c .at .0 → shown rs c ≡ []
   unfolding shown
   shown-out h = rw (drop-of-length-le rs h, take-nil) (siblings-none 0 (c .at .0))
+
+-- a cursor that ends behind the list shows what the list has
+pub shown-min : (rs : List Record) (at end : ℕ) → shown rs (cursorOf at (min (length rs) end)) ≡ shown rs (cursorOf at end)
+unfolding shown
+shown-min rs at end = ⊎-elim over within (le-or-lt (length rs) end)
+  where
+    over : length rs ≤ end → siblings 0 at (take (min (length rs) end - at) (drop at rs)) ≡ siblings 0 at (take (end - at) (drop at rs))
+    over h =
+        let l : length (drop at rs) ≡ length rs - at = length-drop at rs in
+        rw (min-eq-left h, take-all (length rs - at) (drop at rs) (omega arith), take-all (end - at) (drop at rs) (omega arith))
+
+    within : end < length rs → siblings 0 at (take (min (length rs) end - at) (drop at rs)) ≡ siblings 0 at (take (end - at) (drop at rs))
+    within h = rw (min-eq-right (le-of-lt h))
 
 -- the first of them, and the rest behind it and all below it
 module _ (rs : List Record) (at end : ℕ) (h : at < end) (l : at < length rs) where
@@ -101,9 +123,18 @@ module _ (rs : List Record) (at end : ℕ) (h : at < end) (l : at < length rs) w
 
 -- ---- the cursor's answers
 
-pub passes-is : (r : Record) → ltb (r .kind) 3 ≡ passes r
+pub passes-is : (rs : List Record) (k : ℕ) {n : ℕ} → n ≡ nodeOf rs k .kind → ltb n 3 ≡ passes (nodeOf rs k)
 unfolding passes
-passes-is r = refl
+passes-is rs k e = ap (λ (n : ℕ). ltb n 3) e
+
+-- a number, and what it says was found
+pub found-is : {k : RecordNo} → k .0 < 8192 → foundOf k ≡ At k
+unfolding foundOf
+found-is {k} h = rw (lt-ltb (k .0) 8192 h)
+
+pub found-not : {k : RecordNo} → 8192 ≤ k .0 → foundOf k ≡ None
+unfolding foundOf
+found-not {k} h = rw (le-ltb (k .0) 8192 h)
 
 module _ (rs : List Record) (c : Cursor) where
   pub first-in : c .at .0 < c .end .0 → c .at .0 < length rs → At (c .at) ≡ firstOf rs c
@@ -127,10 +158,6 @@ module _ {rs : List Record} {c : Cursor} {at : ℕ} (v : Peeking rs c at) where
   unfolding kept
   peek-past h = ap headOf (sym (ap (kept rs) (shown-past rs (cursorOf at (c .end .0)) h)) ∙ v .same)
 
-  pub peek-out : length rs ≤ at → None ≡ peekOf rs c
-  unfolding kept
-  peek-out h = ap headOf (sym (ap (kept rs) (shown-out rs (cursorOf at (c .end .0)) h)) ∙ v .same)
-
   module _ (h : at < c .end .0) (l : at < length rs) where
     first-kept : kept rs (shown rs (cursorOf at (c .end .0))) ≡ cond (passes (nodeOf rs at)) (kept rs (shown rs (cursorOf (behind rs at) (c .end .0)))) (at ∷ kept rs (shown rs (cursorOf (behind rs at) (c .end .0))))
     unfolding kept
@@ -150,3 +177,7 @@ taken-at rs c {f} {k} {e} q b = rw q (ap tookTo b)
 
 pub taken-none : (rs : List Record) (c : Cursor) {f : Found} → f ≡ None → _≡_ {A = Taken} (record { found = f; rest = c }) (takenAs rs c f)
 taken-none rs c q = rw q
+
+-- as far as the list goes
+pub peek-min : (rs : List Record) (at end : ℕ) {last : ℕ} {f : Found} → last ≡ min (length rs) end → f ≡ peekOf rs (cursorOf at last) → f ≡ peekOf rs (cursorOf at end)
+peek-min rs at end q e = e ∙ ap (λ (n : ℕ). peekOf rs (cursorOf at n)) q ∙ ap (λ (ks : List ℕ). headOf (kept rs ks)) (shown-min rs at end)

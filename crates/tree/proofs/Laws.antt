@@ -28,7 +28,7 @@ use Rattle.tree.specs.Check.{startOf, endOf, checked}
 use Rattle.tree.specs.Good.{GoodRecord, GoodLevel, GoodTree}
 use Rattle.tree.specs.Opening.{ofTree, ofSource, opened}
 use Rattle.tree.specs.Table.{wordsOf, fitting, roomOf, treeOf, nodeOf, Decoded}
-use Rattle.tree.specs.Cursor.{shown, kept, behind, childrenOf, topOf, firstOf, peekOf, takenAs, takeOf}
+use Rattle.tree.specs.Cursor.{foundOf, shown, kept, behind, childrenOf, topOf, firstOf, peekOf, takenAs, takeOf}
 use Rattle.tree.specs.Nodes.{LevelAt, NodeAt, StepAt, FirstAt, PeekAt}
 use Rattle.tree.proofs.RecordLaws as record-laws
 use Rattle.tree.proofs.GoodLaws as good-laws
@@ -89,7 +89,7 @@ table-whole {list} {before} d few room =
     (d .count ∙ ap length all, d .reads ∙ all)
 
 pub tree-few : (words : List ℕ) → length (treeOf words) ≤ 8192
-tree-few words = omega (arith, table-laws.size-is words, table-laws.room-le (length words))
+tree-few words = table-laws.few words
 
 -- ---- nodes of a good tree
 
@@ -145,3 +145,14 @@ behind-more rs k h = cursor-laws.behind-le rs k .1 h
 
 pub behind-within : (rs : List Record) (k : ℕ) → behind rs k ≤ length rs
 behind-within rs k = cursor-laws.behind-le rs k .0
+
+-- a number that may be past the table
+pub found-is : {k : RecordNo} → k .0 < 8192 → foundOf k ≡ At k
+found-is h = cursor-laws.found-is h
+
+pub found-not : {k : RecordNo} → 8192 ≤ k .0 → foundOf k ≡ None
+found-not h = cursor-laws.found-not h
+
+-- a cursor at its end shows nothing
+pub shown-past : (rs : List Record) (c : Cursor) → c .end .0 ≤ c .at .0 → shown rs c ≡ []
+shown-past rs c h = cursor-laws.shown-past rs c h

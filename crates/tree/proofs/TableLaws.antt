@@ -3,12 +3,12 @@ use mathlib.Core.Path.{_≡_, refl, sym, ap, ap₂, _∙_}
 use mathlib.Core.Bool.{Bool, true, false, cond}
 use mathlib.Core.List.{List, [], _∷_, _++_, append-assoc, append-nil}
 use Prim.Native.Nat.{ℕ, zero, suc, _+_, _-_, _*_, _/_, _%_, _≤_, _<_, min}
-use native.Mathlib.Nat.{sub-zero, le-of-lt, min-eq-left, min-eq-right}
+use native.Mathlib.Nat.{sub-zero, le-of-lt, min-eq-left, min-eq-right, mod-eq-of-lt}
 use native.Mathlib.Omega.{arith}
 use lib.Dec.{ltb}
 use lib.ListN.{length, take, drop, getD, set, length-append, length-take, take-append-drop, List·getD-eq-default}
 use lib.Seq.{sets-eq, take-all, take-at, drop-at, length-take-le, take-nil, drop-drop, getD-drop}
-use borrow.Author.Tests.{lt-ltb, le-ltb}
+use borrow.Author.Tests.{lt-ltb, le-ltb, ltb-true}
 use Rattle.tree.specs.declared.record.Record.{Record}
 use Rattle.tree.specs.Records.{four, bodyOf, spanOf, cutRecord, recordOf, recordAt, recordsFrom, records}
 use Rattle.tree.specs.Check.{startOf, endOf}
@@ -98,6 +98,25 @@ node-in w i h = table-at w i (roomOf (length w)) (cutRecord 0) h
 pub node-out : (w : List ℕ) (i : ℕ) → roomOf (length w) ≤ i → cutRecord 0 ≡ nodeOf (treeOf w) i
 unfolding nodeOf
 node-out w i h = sym (List·getD-eq-default (treeOf w) (cutRecord 0) (omega (arith, size-is w)))
+
+-- no table holds more than 8,192 records
+pub few : (w : List ℕ) → length (treeOf w) ≤ 8192
+few w = omega (arith, size-is w, room-le (length w))
+
+-- a cut record keeps its kind, 256 less
+kind-read : (kind start end below : ℕ) → kind % 256 ≡ readFrom kind start end below .kind
+unfolding readFrom
+kind-read kind start end below = go (ltb kind 256) refl
+  where
+    go : (t : Bool) → ltb kind 256 ≡ t → kind % 256 ≡ cond t (record { whole = true; kind = kind; span = spanOf start end; below = below }) (cutRecord (kind % 256)) .kind
+    go true e = mod-eq-of-lt (ltb-true kind 256 e)
+    go false e = refl
+
+pub kind-in : (w : List ℕ) (i : ℕ) → i < roomOf (length w) → getD w (i * 4) 0 % 256 ≡ nodeOf (treeOf w) i .kind
+kind-in w i h = kind-read (getD w (i * 4) 0) (getD w (i * 4 + 1) 0) (getD w (i * 4 + 2) 0) (getD w (i * 4 + 3) 0) ∙ sym (ap (λ (r : Record). r .kind) (node-in w i h))
+
+pub kind-out : (w : List ℕ) (i : ℕ) → roomOf (length w) ≤ i → 0 ≡ nodeOf (treeOf w) i .kind
+kind-out w i h = ap (λ (r : Record). r .kind) (node-out w i h)
 
 words-length : (rs : List Record) → length (wordsOf rs) ≡ length rs * 4
 unfolding wordsOf

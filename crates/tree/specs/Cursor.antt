@@ -5,6 +5,7 @@ use mathlib.Core.List.{List, [], _∷_}
 use lib.ListN.{length, take, drop}
 use lib.Dec.{ltb}
 use Rattle.tree.specs.declared.record.Record.{Record}
+use Rattle.tree.specs.declared.record.RecordNo.{RecordNo}
 use Rattle.tree.specs.declared.cursor.Cursor.{Cursor}
 use Rattle.tree.specs.declared.cursor.Found.{Found}
 use Rattle.tree.specs.declared.cursor.Found.the-variants.{At, None}
@@ -53,6 +54,10 @@ topOf n = cursorOf 0 n
 abbrev pub headOf : List ℕ → Found
 headOf [] = None
 headOf (k ∷ ks) = At (record { 0 = k })
+
+-- what a record number says was found: nothing, where it is past every table
+unfoldable pub foundOf : RecordNo → Found
+foundOf k = cond (ltb (k .0) 8192) (At k) None
 
 -- the next record, behind white space and comments
 abbrev pub peekOf : List Record → Cursor → Found

@@ -1,11 +1,12 @@
 // The cursor over siblings, by value: a record number, and the number behind the last.
-use crate::record::Record;
 use crate::record::RecordNo;
+use crate::table::kind_at;
 use crate::table::node;
 use crate::table::size;
 ghost use mathlib.Core.Path.{_≡_};
-ghost use Rattle.tree.specs.Table.{treeOf};
-ghost use Rattle.tree.specs.Cursor.{behind, childrenOf, topOf, passes, firstOf, peekOf, takenAs, takeOf, childOf, eofOf};
+ghost use Prim.Native.Nat.{min};
+ghost use Rattle.tree.specs.Table.{treeOf, nodeOf};
+ghost use Rattle.tree.specs.Cursor.{foundOf, cursorOf, behind, childrenOf, topOf, passes, firstOf, peekOf, takenAs, takeOf, childOf, eofOf};
 
 // The records from `at` up to, not including, `end`.
 pub struct Cursor {
@@ -29,7 +30,14 @@ pub fn behind(table: &[u32], k: RecordNo) -> RecordNo
     ensures { λ r. ⌜ r .0 ≡ behind (treeOf (now (table .entry))) (k .0) ⌝ }
 {
     let n = size(table);
-    let to = (k.0 as u64) + 1 + (node(table, k).below as u64);
+    let below = node(table, k).below;
+    if below == 0 {
+        if k.0 < n.0 {
+            return RecordNo(k.0 + 1);
+        }
+        return n;
+    }
+    let to = (k.0 as u64) + 1 + (below as u64);
     if to < (n.0 as u64) {
         return RecordNo(to as u32);
     }
@@ -82,27 +90,41 @@ pub fn below(table: &[u32], k: RecordNo) -> Found
 }
 
 // White space, a line comment or a block comment.
-fn is_passed(r: Record) -> bool
-    ensures { λ k. ⌜ k ≡ passes r ⌝ }
+fn is_passed(table: &[u32], k: RecordNo) -> bool
+    ensures { λ r. ⌜ r ≡ passes (nodeOf (treeOf (now (table .entry))) (k .0)) ⌝ }
 {
-    r.kind < 3
+    kind_at(table, k) < 3
+}
+
+fn least(a: u32, b: u32) -> u32
+    ensures { λ r. ⌜ r ≡ min a b ⌝ }
+{
+    if a < b { a } else { b }
+}
+
+// From a record on and before `end`, the first that is passed over by no cursor; 8,192 where there is none.
+pub fn kept_from(table: &[u32], from: RecordNo, end: RecordNo) -> RecordNo
+    ensures { λ k. ⌜ foundOf k ≡ peekOf (treeOf (now (table .entry))) (cursorOf (from .0) (end .0)) ⌝ }
+{
+    let last = least(size(table).0, end.0);
+    let mut at = from.0;
+    while at < last {
+        if is_passed(table, RecordNo(at)) {
+            at = behind(table, RecordNo(at)).0;
+        } else {
+            return RecordNo(at);
+        }
+    }
+    RecordNo(8192)
 }
 
 // The next record, behind white space and comments.
 pub fn peek(table: &[u32], c: Cursor) -> Found
     ensures { λ r. ⌜ r ≡ peekOf (treeOf (now (table .entry))) c ⌝ }
 {
-    let n = size(table);
-    let mut at = c.at;
-    while at.0 < c.end.0 {
-        if n.0 <= at.0 {
-            return Found::None;
-        }
-        if is_passed(node(table, at)) {
-            at = behind(table, at);
-        } else {
-            return Found::At(at);
-        }
+    let k = kept_from(table, c.at, c.end);
+    if k.0 < 8192 {
+        return Found::At(k);
     }
     Found::None
 }

@@ -116,3 +116,14 @@ pub fn node(table: &[u32], k: RecordNo) -> Record
     }
     cut(0)
 }
+
+// The kind of a record, 00 where there is none.
+pub fn kind_at(table: &[u32], k: RecordNo) -> u8
+    ensures { λ r. ⌜ r ≡ nodeOf (treeOf (now (table .entry))) (k .0) .kind ⌝ }
+{
+    let i = k.0 as usize;
+    if i < room(table.len()) {
+        return (table[i * 4] % 256) as u8;
+    }
+    0
+}

@@ -1,26 +1,24 @@
 -- Uses: format.rs 1464 to 1542. Assumes nothing.
 use Prim.Native.Nat.{ℕ, zero, suc}
-use mathlib.Core.Bool.{Bool, not, cond}
+use mathlib.Core.Bool.{Bool, true, false, not, cond}
 use mathlib.Core.List.{List, [], _∷_}
 use Rattle.tree.specs.declared.record.Record.{Record}
 use Rattle.tree.specs.declared.record.RecordNo.{RecordNo}
 use Rattle.kinds.specs.declared.Kind.{Kind}
 use Rattle.meaning.specs.declared.call.Call.the-variants.{Ws}
 use Rattle.meaning.specs.declared.answer.Refusal.the-variants.{TreeDeep}
-use Rattle.meaning.specs.Plan.{Plan, nothing, make, refuse}
-use Rattle.steps.specs.declared.items.Few.{Few}
-use Rattle.steps.specs.declared.items.Few.the-variants.{Zero, One, Many}
-use Rattle.steps.specs.Stream.{Stream, nextIs}
-use Rattle.steps.specs.Flow.{Flow, flow, _▸_, plain, call, write, spaced, ignored, pump, expect, eat, is, parse}
+use Rattle.meaning.specs.Plan.{Plan, nothing, refuse}
+use Rattle.steps.specs.Stream.{Stream}
+use Rattle.steps.specs.Flow.{Flow, flow, _▸_, plain, call, write, spaced, ignored, pump, expect, eat, ifNext, is, parse}
 use Rattle.steps.specs.Loop.{loop}
-use Rattle.steps.specs.Items.{more, list}
+use Rattle.steps.specs.Items.{Few, Zero, One, Many, more, list}
 
 unfoldable pub usePart : List Record → (RecordNo → Plan) → RecordNo → Plan
 usePart rs group k = cond (is rs Kind.ItemUseGroup (k .0)) (group k) (write k)
 
 -- `as` and a name, or `as` alone; what stands behind is left over
 unfoldable pub asName : List Record → Stream → Flow Stream
-asName rs s = cond (nextIs (is rs Kind.As) s) ((plain (make Ws) ▸ pump write ▸ eat rs Kind.Ident spaced) s) (flow nothing s)
+asName rs = ifNext (is rs Kind.As) (call Ws ▸ pump write ▸ eat rs Kind.Ident spaced) (plain nothing)
 
 -- as far as `as`
 unfoldable pub useParts : List Record → (RecordNo → Plan) → Stream → Flow Stream
@@ -34,15 +32,18 @@ unfoldable pub howMany : (ℕ → Bool) → List ℕ → Few
 howMany want [] = Zero
 howMany want (k ∷ ks) = cond (want k) (more (howMany want ks)) (howMany want ks)
 
+abbrev pub isOne : Few → Bool
+isOne Zero = false
+isOne One = true
+isOne Many = false
+
 -- the braces of a group of one path are not written
-abbrev pub braced : Few → RecordNo → Plan
-braced Zero = write
-braced One = ignored
-braced Many = write
+unfoldable pub braced : Bool → RecordNo → Plan
+braced single k = cond single (ignored k) (write k)
 
 unfoldable pub groupRule : List Record → (RecordNo → Plan) → Stream → Flow Stream
 groupRule rs path s =
-    let brace = braced (howMany (is rs Kind.ItemUsePath) (s .left)) in
+    let brace = braced (isOne (howMany (is rs Kind.ItemUsePath) (s .left))) in
     (expect rs Kind.OpenBrace brace ▸ list rs (is rs Kind.ItemUsePath) path ▸ expect rs Kind.CloseBrace brace) s
 
 -- the number bounds how often a group may stand in another: 64 is enough for every tree that is opened

@@ -1,3 +1,3 @@
-// Uses: format.rs 1464 to 1542.
-pub mod brace;
+// Uses, their paths and groups.
 pub mod item_use;
+pub mod use_parts;

@@ -15,6 +15,16 @@ extern "C" {
         records: *const u8,
         records_len: usize,
     ) -> u64;
+    fn bench_runs(
+        source: *const u8,
+        source_len: usize,
+        tree: *const u8,
+        tree_len: usize,
+        out: *mut u8,
+        out_len: usize,
+        node: u32,
+        times: u32,
+    ) -> u64;
     fn savetnuok_open(
         source: *const u8,
         source_len: usize,
@@ -135,6 +145,23 @@ pub fn public_run(
             out.as_mut_ptr(),
             out.len(),
             node,
+        )
+    }
+}
+
+/// So many runs on a node, each on a fresh engine, over a tree that is decoded
+/// once.
+pub fn runs(source: &[u8], tree: &[u8], out: &mut [u8], node: u32, times: u32) -> u64 {
+    unsafe {
+        bench_runs(
+            source.as_ptr(),
+            source.len(),
+            tree.as_ptr(),
+            tree.len(),
+            out.as_mut_ptr(),
+            out.len(),
+            node,
+            times,
         )
     }
 }

@@ -1,6 +1,5 @@
--- `bench::history::body` meets its contract: document 01's table by its ranges. Assumes nothing.
+-- `bench::history::body` meets its contract. Assumes nothing.
 use Rattle.bench.proofs.HistoryLaws.{body-none, body-four, body-one, body-nine, body-rest}
-use native.Mathlib.Omega.{arith}
 use Rattle.bench.proofs.history.body.Statement.{statement}
 use Rattle.bench.proofs.history.body.Tie as tie
 

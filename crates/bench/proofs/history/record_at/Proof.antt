@@ -1,4 +1,4 @@
--- `bench::history::record_at` meets its contract: whole, or up to the list's end. Assumes nothing.
+-- `bench::history::record_at` meets its contract. Whole, or up to the list's end. Assumes nothing.
 use Prim.Native.Nat.{_+_}
 use lib.ListN.{getD}
 use mathlib.Core.Path.{ap}
@@ -9,7 +9,9 @@ use Rattle.bench.proofs.history.record_at.Statement.{statement}
 use Rattle.bench.proofs.history.record_at.Tie as tie
 
 add-n : tie.Need-add-n
-add-n c = omega (arith, c .body .ensures, body-most (getD (c .before .before .before .args .records .now) (c .before .before .before .args .at) 0))
+add-n c =
+    let start = c .before .before .before in
+    omega (arith, c .body .ensures, body-most (getD (start .args .records .now) (start .args .at) 0))
 
 returns : tie.Need-returns
 returns c =
@@ -23,18 +25,5 @@ returns-2 c =
 
 pub record-at-spec : {M : Type 1} → statement M
 record-at-spec =
-    tie.close
-    (tie.spec
-    (λ c. search needs)
-    (λ c κs. search needs)
-    add-n
-    (λ c. search needs)
-    (λ c. search needs)
-    (λ c. search needs)
-    (λ c. search needs)
-    (λ c. search needs)
-    returns
-    (λ c. search needs)
-    (λ c. search needs)
-    (λ c. search needs)
-    returns-2)
+    tie.close (tie.spec (λ c. search needs) (λ c κs. search needs) add-n (λ c. search needs) (λ c. search needs) (λ c. search needs)
+    (λ c. search needs) (λ c. search needs) returns (λ c. search needs) (λ c. search needs) (λ c. search needs) returns-2)

@@ -1,65 +1,22 @@
 -- `bodies::body::body` meets its contract. Assumes nothing.
-use Rattle.meaning.proofs.Chain as chain
-use Rattle.kinds.specs.Facts.{byteOf, factsOf}
-use Rattle.steps.proofs.RuleLaws.{if-so, if-not}
+use Rattle.steps.proofs.Rules.{sym, _∙_, ne-eqb, byteOf, factsOf, treeOf, nothing-made, pumped, needs}
+use Rattle.queue.proofs.MadeLaws as made
 use Rattle.bodies.specs.Body.{body}
-use mathlib.Core.Path.{_∙_}
-use borrow.Author.Needs.{needs}
 use Rattle.bodies.proofs.body.body.Statement.{statement}
 use Rattle.bodies.proofs.body.body.Tie as tie
-
-same-length : tie.Need-same-length
-same-length c =
-    let at-ws = c .before .before .before .before .before .before .before in
-    chain.keeps (c .before .before .struct-node .ensures) ∙ chain.keeps (at-ws .ws .ensures)
-
-returns : tie.Need-returns
-unfolding body byteOf factsOf
-returns c =
-    let at-ws = c .before .before .before .before .before .before .before in
-    let then1 = at-ws .before .before .before in
-    if-so _ _ (then1 .before .is-kind .ensures) (then1 .if1 .taken) (chain._▹_ (at-ws .ws .ensures) (c .before .before .struct-node .ensures))
-
-returns-2 : tie.Need-returns-2
-unfolding body byteOf factsOf
-returns-2 c =
-    let then2 = c .before .before .before .before .before in
-    let else1 = then2 .before .before in
-    if-not _ _ (else1 .before .is-kind .ensures) (else1 .if1 .left)
-    (if-so _ _ (then2 .before .is-kind2 .ensures) (then2 .if2 .taken) (c .before .before .tuple-node .ensures))
-
-returns-3 : tie.Need-returns-3
-unfolding body byteOf factsOf
-returns-3 c =
-    let else2 = c .before .before in
-    let else1 = else2 .before .before in
-    if-not _ _ (else1 .before .is-kind .ensures) (else1 .if1 .left)
-    (if-not _ _ (else2 .before .is-kind2 .ensures) (else2 .if2 .left) (if-so _ _ (c .before .is-kind3 .ensures) (c .if3 .taken) chain.still))
 
 returns-4 : tie.Need-returns-4
 unfolding body byteOf factsOf
 returns-4 c =
-    let else2 = c .before .before .before in
-    let else1 = else2 .before .before in
-    let start = else1 .before .before .before .before .before in
-    if-not _ _ (else1 .before .is-kind .ensures) (else1 .if1 .left)
-    (if-not _ _ (else2 .before .is-kind2 .ensures) (else2 .if2 .left)
-    (if-not _ _ (c .before .before .is-kind3 .ensures) (c .before .if3 .left) (c .refuse .ensures .ran _ (start .args .queue .now) (start .args .out .now))))
+    let at-kind-at = c .before .before .before in let at-pump = at-kind-at .before in
+    let n = c .before .before .match .rest in pumped _ (at-pump .pump .ensures) (rw (← at-kind-at .kind-at .ensures, ne-eqb _ _ (n .0 .0 .1), ne-eqb _ _ (n .0 .1), ne-eqb _ _ (n .1)) (c .refuse .ensures .ran _ _ _))
 
 pub body-spec : {M : Type 1} → statement M
+unfolding body byteOf factsOf
 body-spec =
-    tie.close
-    (tie.spec
-    (λ c κs. search needs)
-    (λ c κs. search needs)
-    (λ c κs. search needs)
-    same-length
-    returns
-    (λ c κs. search needs)
-    (λ c κs. search needs)
+    tie.close (tie.spec (λ c κs. search needs) (λ c κs. search needs) (λ c κs. search needs) (λ c κs. search needs) (λ c κs. search needs)
+    (λ c κs. search needs) (λ c. search needs)
+    (λ c. pumped _ (c .before .before .before .before .before .before .before .before .before .before .before .before .before .before .pump .ensures) (rw (sym (c .before .before .before .before .before .before .before .before .before .before .before .before .before .kind-at .ensures) ∙ c .before .before .before .before .before .before .before .before .before .before .before .before .match .keys1) (made._▹_ (c .before .before .before .before .before .before .before .before .ws .ensures) (c .before .before .struct-body .ensures))))
     (λ c. search needs)
-    returns-2
-    (λ c κs. search needs)
-    returns-3
-    (λ c κs. search needs)
-    returns-4)
+    (λ c. pumped _ (c .before .before .before .before .before .before .before .before .pump .ensures) (rw (sym (c .before .before .before .before .before .before .before .kind-at .ensures) ∙ c .before .before .before .before .before .before .match .keys2) (c .before .before .tuple-body .ensures)))
+    (λ c. pumped _ (c .before .before .pump .ensures) (rw (sym (c .before .kind-at .ensures) ∙ c .match .keys3) nothing-made)) returns-4)

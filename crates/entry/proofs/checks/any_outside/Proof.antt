@@ -1,14 +1,9 @@
 -- `entry::checks::any_outside` meets its contract. The invariant: the rest says what the whole says. Assumes nothing.
-use Prim.Native.Nat.{_+_, _-_, _≤_}
+use Rattle.text.proofs.Base.{_+_, _-_, _≤_, _∙_, _≡_, ap, sym, needs, arith}
 use Rattle.meaning.specs.Lent.{anyOutside}
 use Rattle.queue.specs.View.{queueOf}
-use Rattle.entry.proofs.LentLaws.{outside-here, outside-more}
-use Rattle.queue.proofs.RingLaws.{ring-next}
-use Rattle.queue.proofs.TabLaws.{tab-all, tab-none}
-use mathlib.Core.Path.{_∙_, _≡_, ap, sym}
-use borrow.Author.Needs.{needs}
-use native.Mathlib.Omega.{arith}
-use Rattle.entry.proofs.checks.any_outside.Statement.{statement}
+use Rattle.entry.proofs.{LentLaws.outside-here, LentLaws.outside-more, checks.any_outside.Statement.statement}
+use Rattle.queue.proofs.{RingLaws.ring-next, TabLaws.tab-all, TabLaws.tab-none}
 use Rattle.entry.proofs.checks.any_outside.Tie as tie
 
 abbrev Inv-loop : tie.InvT-loop
@@ -22,8 +17,7 @@ loop-holds c = (search needs, ap (anyOutside (c .before .args .src .now)) (tab-a
 
 loop-again : tie.Need-loop-again Inv-loop μ-loop
 loop-again c =
-    let in-loop = c .before .before .before in
-    let at-loop = in-loop .before in
+    let in-loop = c .before .before .before in let at-loop = in-loop .before in
     let start = at-loop .before .before in (
       omega arith,
       sym
@@ -36,8 +30,7 @@ loop-again c =
 
 returns : tie.Need-returns Inv-loop μ-loop
 returns c =
-    let in-loop = c .before .before .before in
-    let at-loop = in-loop .before in
+    let in-loop = c .before .before .before in let at-loop = in-loop .before in
     let start = at-loop .before .before in
     outside-here _ _ _ _
     (ring-next (start .args .queue .now) (start .args .head) (start .args .count) (at-loop .loop .i) _ (in-loop .loop-test .taken)
@@ -53,15 +46,5 @@ returns-2 c =
 
 pub any-outside-spec : {M : Type 1} → statement M
 any-outside-spec =
-    tie.close
-    (tie.spec
-    Inv-loop
-    μ-loop
-    loop-holds
-    (λ c κs. search needs)
-    (λ c κs. search needs)
-    (λ c. search needs)
-    (λ c. search needs)
-    loop-again
-    returns
-    returns-2)
+    tie.close (tie.spec Inv-loop μ-loop loop-holds (λ c κs. search needs) (λ c κs. search needs) (λ c. search needs) (λ c. search needs) loop-again
+    returns returns-2)

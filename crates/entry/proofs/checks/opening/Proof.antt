@@ -1,7 +1,6 @@
 -- `entry::checks::opening` meets its contract. Assumes nothing.
+use Rattle.text.proofs.Base.{_∙_, ap, sym, needs}
 use Rattle.meaning.specs.Opening.{answerTo}
-use mathlib.Core.Path.{_∙_, ap, sym}
-use borrow.Author.Needs.{needs}
 use Rattle.entry.proofs.checks.opening.Statement.{statement}
 use Rattle.entry.proofs.checks.opening.Tie as tie
 
@@ -22,16 +21,5 @@ returns-5 c = ap answerTo (sym (c .before .o3 .given .1) ∙ c .before .before .
 
 pub opening-spec : {M : Type 1} → statement M
 opening-spec =
-    tie.close
-    (tie.spec
-    (λ c κs. search needs)
-    (λ c. search needs)
-    (λ c. search needs)
-    (λ c. search needs)
-    (λ c. search needs)
-    (λ c. search needs)
-    returns
-    returns-2
-    returns-3
-    returns-4
-    returns-5)
+    tie.close (tie.spec (λ c κs. search needs) (λ c. search needs) (λ c. search needs) (λ c. search needs) (λ c. search needs) (λ c. search needs)
+    returns returns-2 returns-3 returns-4 returns-5)

@@ -1,8 +1,7 @@
 -- `entry::decode::decode` meets its contract: by the number of bytes. Assumes nothing.
+use Rattle.text.proofs.Base.{_∙_, ap, sym, needs}
 use Rattle.entry.proofs.DecodeLaws.{empty-none, five-bytes, long-none, one-byte, two-bytes}
-use mathlib.Core.Path.{_∙_, ap, sym}
 use Rattle.meaning.specs.CallRecord as by-record
-use borrow.Author.Needs.{needs}
 use Rattle.entry.proofs.decode.decode.Statement.{statement}
 use Rattle.entry.proofs.decode.decode.Tie as tie
 
@@ -26,16 +25,5 @@ returns-5 c = long-none _ (c .before .before .before .before .if1 .left) (c .bef
 
 pub decode-spec : {M : Type 1} → statement M
 decode-spec =
-    tie.close
-    (tie.spec
-    (λ c. empty-none _ (c .if1 .taken))
-    (λ c. search needs)
-    (λ c κs. search needs)
-    returns-2
-    (λ c. search needs)
-    (λ c κs. search needs)
-    returns-3
-    (λ c κs. search needs)
-    (λ c κs. search needs)
-    returns-4
-    returns-5)
+    tie.close (tie.spec (λ c. empty-none _ (c .if1 .taken)) (λ c. search needs) (λ c κs. search needs) returns-2 (λ c. search needs)
+    (λ c κs. search needs) returns-3 (λ c κs. search needs) (λ c κs. search needs) returns-4 returns-5)

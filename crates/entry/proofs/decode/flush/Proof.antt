@@ -1,11 +1,8 @@
 -- `entry::decode::flush` meets its contract. Assumes nothing.
-use Rattle.entry.proofs.DecodeLaws.{at-none}
-use mathlib.Core.Bool.{false, true}
-use mathlib.Core.List.{[], _∷_}
+use Rattle.text.proofs.Base.{false, true, [], _∷_, arith}
+use Rattle.entry.proofs.{DecodeLaws.at-none, decode.flush.Statement.statement}
 use Rattle.meaning.specs.declared.call.Call.the-variants.{FlushWhitespace}
 use Rattle.meaning.specs.CallRecord as by-record
-use native.Mathlib.Omega.{arith}
-use Rattle.entry.proofs.decode.flush.Statement.{statement}
 use Rattle.entry.proofs.decode.flush.Tie as tie
 
 returns : tie.Need-returns
@@ -21,9 +18,4 @@ unfolding by-record.decode
 returns-3 c = at-none (FlushWhitespace false ∷ FlushWhitespace true ∷ []) (c .before .before .args .b) (omega arith)
 
 pub flush-spec : {M : Type 1} → statement M
-flush-spec =
-    tie.close
-    (tie.spec
-    returns
-    returns-2
-    returns-3)
+flush-spec = tie.close (tie.spec returns returns-2 returns-3)

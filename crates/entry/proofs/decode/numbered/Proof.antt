@@ -1,7 +1,6 @@
 -- `entry::decode::numbered` meets its contract. Assumes nothing.
-use Rattle.entry.proofs.DecodeLaws.{numbered-none}
+use Rattle.entry.proofs.{DecodeLaws.numbered-none, decode.numbered.Statement.statement}
 use Rattle.entry.specs.Served as served
-use Rattle.entry.proofs.decode.numbered.Statement.{statement}
 use Rattle.entry.proofs.decode.numbered.Tie as tie
 
 returns : tie.Need-returns
@@ -20,10 +19,4 @@ returns-4 : tie.Need-returns-4
 returns-4 c = numbered-none _ _ (c .before .before .if1 .left) (c .before .if2 .left) (c .if3 .left)
 
 pub numbered-spec : {M : Type 1} → statement M
-numbered-spec =
-    tie.close
-    (tie.spec
-    returns
-    returns-2
-    returns-3
-    returns-4)
+numbered-spec = tie.close (tie.spec returns returns-2 returns-3 returns-4)

@@ -1,6 +1,6 @@
 -- `entry::state::fresh` meets its contract. Assumes nothing.
+use Rattle.text.proofs.Base.{refl}
 use Rattle.queue.specs.View.{slotsOf, wordsOf}
-use mathlib.Core.Path.{refl}
 use Rattle.entry.proofs.state.fresh.Statement.{statement}
 use Rattle.entry.proofs.state.fresh.Tie as tie
 
@@ -9,7 +9,4 @@ unfolding slotsOf wordsOf
 returns c = refl
 
 pub fresh-spec : {M : Type 1} → statement M
-fresh-spec =
-    tie.close
-    (tie.spec
-    returns)
+fresh-spec = tie.close (tie.spec returns)

@@ -1,27 +1,25 @@
 -- `entry::state::left` meets its contract. Assumes nothing.
-use Rattle.entry.proofs.ServeLaws.{left-open, left-stopped}
+use Rattle.text.proofs.Base.{_∙_, sym, needs}
+use Rattle.queue.specs.Words.{runOf}
 use Rattle.queue.proofs.StepLaws.{goes}
-use mathlib.Core.Path.{_∙_, sym}
-use borrow.Author.Needs.{needs}
-use Rattle.entry.proofs.state.left.Statement.{statement}
+use Rattle.entry.proofs.{ServeLaws.left-open, ServeLaws.left-stopped, state.left.Statement.statement}
 use Rattle.entry.proofs.state.left.Tie as tie
 
 returns : tie.Need-returns
 returns c =
-    let start = c .before .before in
-    left-stopped (start .args .s) (start .args .r) (start .args .queue .now) (sym (c .before .stopped .ensures) ∙ c .if1 .taken)
+    let start = c .before .before .before in
+    rw (c .before .before .answer .ensures) (left-stopped (start .args .s) (runOf (start .args .fmt .now)) (start .args .queue .now) (sym (c .before .stopped .ensures) ∙ c .if1 .taken))
 
 returns-2 : tie.Need-returns-2
 returns-2 c =
-    let start = c .before .before .before in
-    left-open (start .args .s) (start .args .r) (start .args .queue .now) _ (goes (c .before .before .stopped .ensures) (c .before .if1 .left))
-    (c .tidy .ensures)
+    let at-finished = c .before .before .before in let at-indent = at-finished .before in let at-spaced = at-indent .before in
+    let at-use-lines = at-spaced .before in let at-lines = at-use-lines .before in let at-count = at-lines .before in let at-len = at-count .before in
+    let at-if1 = at-len .before in let at-stopped = at-if1 .before in let at-answer = at-stopped .before in let start = at-answer .before in
+    rw (at-answer .answer .ensures, at-len .len .ensures, at-count .count .ensures, at-lines .lines .ensures, at-use-lines .use-lines .ensures, at-spaced .spaced .ensures, at-indent .indent .ensures, at-finished .finished .ensures)
+    (left-open (start .args .s) (runOf (start .args .fmt .now)) (start .args .queue .now) _ (goes (at-stopped .stopped .ensures) (at-if1 .if1 .left)) (rw (c .before .before .head .ensures, c .before .count2 .ensures) at (c .tidy .ensures)))
 
 pub left-spec : {M : Type 1} → statement M
 left-spec =
-    tie.close
-    (tie.spec
-    (λ c κs. search needs)
-    returns
-    (λ c κs. search needs)
-    returns-2)
+    tie.close (tie.spec (λ c κs. search needs) (λ c κs. search needs) returns (λ c κs. search needs) (λ c κs. search needs) (λ c κs. search needs)
+    (λ c κs. search needs) (λ c κs. search needs) (λ c κs. search needs) (λ c κs. search needs) (λ c κs. search needs) (λ c κs. search needs)
+    (λ c κs. search needs) returns-2)

@@ -1,7 +1,6 @@
 -- `format::at_least::is_at_least` meets its contract. Assumes nothing.
-use Rattle.format.proofs.AtLeastLaws.{at-least}
-use borrow.Author.Needs.{needs}
-use Rattle.format.proofs.at_least.is_at_least.Statement.{statement}
+use Rattle.steps.proofs.Rules.{needs}
+use Rattle.format.proofs.{AtLeastLaws.at-least, at_least.is_at_least.Statement.statement}
 use Rattle.format.proofs.at_least.is_at_least.Tie as tie
 
 returns : tie.Need-returns
@@ -10,9 +9,4 @@ returns c =
     at-least (start .args .src .now) (start .args .span) (start .args .n) (c .before .part .ensures) (c .count .ensures)
 
 pub is-at-least-spec : {M : Type 1} → statement M
-is-at-least-spec =
-    tie.close
-    (tie.spec
-    (λ c κs. search needs)
-    (λ c κs. search needs)
-    returns)
+is-at-least-spec = tie.close (tie.spec (λ c κs. search needs) (λ c κs. search needs) returns)

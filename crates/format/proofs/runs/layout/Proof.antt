@@ -1,38 +1,22 @@
 -- `format::runs::layout` meets its contract. Assumes nothing.
-use mathlib.Core.Path.{refl}
-use lib.ListN.{length}
+use Rattle.steps.proofs.Rules.{refl, length, treeOf, if-so, if-not, needs, arith}
 use borrow.Author.Tests.{le-leb, lt-leb}
-use Rattle.tree.specs.Table.{treeOf}
-use Rattle.steps.proofs.RuleLaws.{if-so, if-not}
 use Rattle.format.specs.Rules.{layout}
-use borrow.Author.Needs.{needs}
-use native.Mathlib.Omega.{arith}
 use Rattle.format.proofs.runs.layout.Statement.{statement}
 use Rattle.format.proofs.runs.layout.Tie as tie
 
 returns : tie.Need-returns
 unfolding layout
 returns c =
-    let at-size = c .before .before .before .before in
-    let start = at-size .before .before .before .before in
-    if-so _ _ refl (le-leb (length (treeOf (start .args .table .now))) (start .args .k .0) (omega (arith, at-size .size .ensures, c .before .if1 .taken)))
-    (c .refuse .ensures .ran _ (start .args .queue .now) (start .args .out .now))
+    let at-size = c .before .before .before .before .before in let start = at-size .before .before .before .before in
+    if-so _ _ refl (le-leb (length (treeOf (start .args .table .now))) (start .args .k .0) (omega (arith, at-size .size .ensures, c .before .before .if1 .taken))) (c .refuse .ensures .ran _ (start .args .queue .now) (start .args .out .now))
 
 returns-2 : tie.Need-returns-2
 unfolding layout
 returns-2 c =
-    let else1 = c .before .before .before .before .before in
-    let at-size = else1 .before .before .before in
+    let at-if1 = c .before .before .before .before .before .before in let at-size = at-if1 .before .before .before in
     let start = at-size .before .before .before .before in
-    if-not _ _ refl (lt-leb (length (treeOf (start .args .table .now))) (start .args .k .0) (omega (arith, at-size .size .ensures, else1 .if1 .left)))
-    (c .before .before .rule .ensures)
+    if-not _ _ refl (lt-leb (length (treeOf (start .args .table .now))) (start .args .k .0) (omega (arith, at-size .size .ensures, at-if1 .if1 .left))) (c .before .before .rule .ensures)
 
 pub layout-spec : {M : Type 1} → statement M
-layout-spec =
-    tie.close (tie.spec
-    (λ c κs. search needs)
-    (λ c κs. search needs)
-    returns
-    (λ c κs. search needs)
-    (λ c. search needs)
-    returns-2)
+layout-spec = tie.close (tie.spec (λ c κs. search needs) (λ c κs. search needs) returns (λ c κs. search needs) (λ c. search needs) returns-2)

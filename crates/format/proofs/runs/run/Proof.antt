@@ -1,42 +1,21 @@
 -- `format::runs::run` meets its contract. Assumes nothing.
-use Prim.Native.Nat.{ℕ}
+use Rattle.steps.proofs.Rules.{ℕ, List, Record, keeps, needs}
 use lib.ListN.{replicate, length-replicate}
-use mathlib.Core.List.{List}
-use Rattle.tree.specs.declared.record.Record.{Record}
-use Rattle.format.specs.Rules.{layout}
 use Rattle.entry.proofs.RunLaws.{serve-run}
-use borrow.Author.Needs.{needs}
+use Rattle.format.specs.Rules.{layout}
 use Rattle.format.proofs.runs.run.Statement.{statement}
 use Rattle.format.proofs.runs.run.Tie as tie
 
 returns : tie.Need-returns
 returns c =
-    let at-layout = c .before .before .before .before .before .before .before in
-    let at-first = at-layout .before .before .before in
-    let at-ready = at-first .before .before in
-    let at-lent = at-ready .before in
-    let at-started = at-lent .before in
-    let at-opening = at-started .before in
-    let at-decode = at-opening .before .before .before .before .before in
+    let at-layout = c .before .before .before .before .before .before .before .before in let at-first = at-layout .before .before .before .before in
+    let at-stops = at-first .before .before in let at-lent = at-stops .before .before in let at-started = at-lent .before .before .before in
+    let at-opening = at-started .before in let at-decode = at-opening .before .before .before .before in
     let start = at-decode .before .before .before .before .before in
-    serve-run (start .args .source .now) (start .args .tree .now) (replicate 32768 0) _ (at-decode .decode .result) (at-decode .decode .ensures)
-    (length-replicate {A = ℕ} 32768 0) (start .args .s) (start .args .out .now) (at-opening .opening .ensures) (at-started .started .ensures)
-    (at-lent .lent .ensures) (at-ready .ready .ensures) (λ (rs : List Record). layout rs (start .args .k)) (at-first .first .ensures)
-    (at-layout .layout .ensures) (c .before .before .ended .ensures)
+    serve-run (start .args .source .now) (start .args .tree .now) (replicate 32768 0) _ (at-decode .decode .result) (at-decode .decode .ensures) (length-replicate {A = ℕ} 32768 0) (start .args .s) (start .args .out .now)
+    (at-opening .opening .ensures) _ (at-started .started .ensures) (at-lent .lent .ensures) (at-stops .stops .ensures) (λ (rs : List Record). layout rs (start .args .k)) (at-first .first .ensures) (at-layout .layout .ensures) (c .before .before .ended .ensures)
 
 pub run-spec : {M : Type 1} → statement M
 run-spec =
-    tie.close
-    (tie.spec
-    (λ c. search needs)
-    (λ c κs. search needs)
-    (λ c κs. search needs)
-    (λ c κs. search needs)
-    (λ c κs. search needs)
-    (λ c κs. search needs)
-    (λ c. search needs)
-    (λ c κs. search needs)
-    (λ c κs. search needs)
-    (λ c κs. search needs)
-    (λ c. search needs)
-    returns)
+    tie.close (tie.spec (λ c. search needs) (λ c κs. search needs) (λ c κs. search needs) (λ c κs. search needs) (λ c κs. search needs)
+    (λ c κs. search needs) (λ c. search needs) (λ c κs. search needs) (λ c κs. search needs) (λ c κs. search needs) (λ c. search needs) returns)

@@ -1,71 +1,43 @@
--- `output::calls::flush_prefix_comments` meets its contract: collecting, then a release. Assumes nothing.
-use Rattle.output.proofs.CallLaws.{acted-stopped, ran-ready}
-use Rattle.output.proofs.NodeLaws.{prefix-done, prefix-full, prefix-past}
+-- `output::calls::flush_prefix_comments` meets its contract. Collecting, then a release. Assumes nothing.
+use Rattle.text.proofs.Base.{_∙_, refl, sym, needs}
 use Rattle.queue.proofs.StepLaws.{goes}
-use mathlib.Core.Path.{_∙_, refl, sym}
-use borrow.Author.Needs.{needs}
-use Rattle.output.proofs.calls.flush_prefix_comments.Statement.{statement}
+use Rattle.output.proofs.{CallLaws.acted-stopped, CallLaws.made-ready, NodeLaws.prefix-done, NodeLaws.prefix-full, NodeLaws.prefix-past}
+use Rattle.output.proofs.{calls.flush_prefix_comments.Statement.statement}
 use Rattle.output.proofs.calls.flush_prefix_comments.Tie as tie
 
 returns : tie.Need-returns
 returns c =
     let start = c .before .before .before .before .before .before in
-    ran-ready (start .args .run) (c .before .before .ready .ensures) refl
-    (acted-stopped (start .args .queue .now) (sym (c .before .stopped .ensures) ∙ c .if1 .taken))
+    made-ready (c .before .stops .ensures) refl
+    (acted-stopped (start .args .queue .now) (sym (c .before .stops .ensures .told) ∙ c .if1 .taken))
 
 returns-2 : tie.Need-returns-2
 returns-2 c =
-    let at-process-comments = c .before .before .before in
-    let else1 = at-process-comments .before .before in
-    let at-ready = else1 .before .before in
-    let start = at-ready .before .before .before .before in
-    ran-ready (start .args .run) (at-ready .ready .ensures) refl
-    (prefix-full _ _ _ _ (goes (else1 .before .stopped .ensures) (else1 .if1 .left)) _ _ (at-process-comments .process-comments .ensures)
-    (sym (c .before .before .stopped2 .ensures) ∙ c .before .if2 .taken) (c .refused-as .ensures))
+    let at-lines = c .before .before .before .before .before .before in let at-if1 = at-lines .before .before in let at-stops = at-if1 .before in
+    let start = at-stops .before .before .before .before .before in
+    made-ready (at-stops .stops .ensures) refl
+    (prefix-full _ (start .args .out .now) (goes (at-stops .stops .ensures .told) (at-if1 .if1 .left)) (at-lines .lines .ensures) (c .before .process-comments .ensures) (c .if2 .taken))
 
 returns-3 : tie.Need-returns-3
 returns-3 c =
-    let at-release = c .before .before .before .before .before in
-    let else2 = at-release .before .before .before in
-    let at-process-comments = else2 .before .before in
-    let else1 = at-process-comments .before .before in
-    let at-ready = else1 .before .before in
-    let start = at-ready .before .before .before .before in
-    ran-ready (start .args .run) (at-ready .ready .ensures) refl
-    (prefix-past _ _ _ _ (goes (else1 .before .stopped .ensures) (else1 .if1 .left)) _ _ (at-process-comments .process-comments .ensures)
-    (goes (else2 .before .stopped2 .ensures) (else2 .if2 .left)) _ _ (at-release .release .ensures)
-    (sym (c .before .before .stopped3 .ensures) ∙ c .before .if3 .taken) (c .refused-as2 .ensures))
+    let at-stopped = c .before .before .before in let at-release-waiting = at-stopped .before .before .before .before in
+    let at-if2 = at-release-waiting .before .before .before .before in let at-process-comments = at-if2 .before in
+    let at-count = at-process-comments .before .before .before in let at-lines = at-count .before .before in let at-if1 = at-lines .before .before in
+    let at-stops = at-if1 .before in let start = at-stops .before .before .before .before .before in
+    made-ready (at-stops .stops .ensures) refl
+    (prefix-past _ (start .args .out .now) (goes (at-stops .stops .ensures .told) (at-if1 .if1 .left)) (at-lines .lines .ensures) (at-process-comments .process-comments .ensures) (at-if2 .if2 .left) (at-release-waiting .release-waiting .ensures) (sym (at-stopped .stopped .ensures) ∙ c .before .before .if3 .taken) (at-count .count .ensures) (c .collected .ensures))
 
 returns-4 : tie.Need-returns-4
 returns-4 c =
-    let else3 = c .before .before in
-    let at-release = else3 .before .before .before .before in
-    let else2 = at-release .before .before .before in
-    let at-process-comments = else2 .before .before in
-    let else1 = at-process-comments .before .before in
-    let at-ready = else1 .before .before in
-    let start = at-ready .before .before .before .before in
-    ran-ready (start .args .run) (at-ready .ready .ensures) refl
-    (prefix-done _ _ _ _ (goes (else1 .before .stopped .ensures) (else1 .if1 .left)) _ _ (at-process-comments .process-comments .ensures)
-    (goes (else2 .before .stopped2 .ensures) (else2 .if2 .left)) _ _ (at-release .release .ensures)
-    (goes (else3 .before .stopped3 .ensures) (else3 .if3 .left)) refl (c .hinted .ensures))
+    let at-if3 = c .before .before .before .before in let at-stopped = at-if3 .before in
+    let at-release-waiting = at-stopped .before .before .before .before in let at-if2 = at-release-waiting .before .before .before .before in
+    let at-process-comments = at-if2 .before in let at-lines = at-process-comments .before .before .before .before .before in
+    let at-if1 = at-lines .before .before in let at-stops = at-if1 .before in let start = at-stops .before .before .before .before .before in
+    made-ready (at-stops .stops .ensures) refl
+    (prefix-done _ (start .args .out .now) (goes (at-stops .stops .ensures .told) (at-if1 .if1 .left)) (at-lines .lines .ensures) (at-process-comments .process-comments .ensures) (at-if2 .if2 .left) (at-release-waiting .release-waiting .ensures) (goes (at-stopped .stopped .ensures) (at-if3 .if3 .left)) (rw (c .before .lines2 .ensures)) (c .set-use-lines .ensures))
 
 pub flush-prefix-comments-spec : {M : Type 1} → statement M
 flush-prefix-comments-spec =
-    tie.close
-    (tie.spec
-    (λ c κs. search needs)
-    (λ c κs. search needs)
-    returns
-    (λ c κs. search needs)
-    (λ c κs. search needs)
-    (λ c κs. search needs)
-    returns-2
-    (λ c κs. search needs)
-    (λ c κs. search needs)
-    (λ c κs. search needs)
-    (λ c. search needs)
-    returns-3
-    (λ c κs. search needs)
-    (λ c. search needs)
-    returns-4)
+    tie.close (tie.spec (λ c κs. search needs) returns (λ c κs. search needs) (λ c κs. search needs) (λ c κs. search needs) returns-2
+    (λ c κs. search needs) (λ c κs. search needs) (λ c κs. search needs) (λ c. search needs) returns-3 (λ c κs. search needs) (λ c κs. search needs)
+    (λ c. search needs) returns-4)

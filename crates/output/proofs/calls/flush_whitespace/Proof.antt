@@ -1,22 +1,13 @@
 -- `output::calls::flush_whitespace` meets its contract. Assumes nothing.
-use Rattle.output.proofs.CallLaws.{flush-is, ran-ready}
-use mathlib.Core.Path.{refl}
-use borrow.Author.Needs.{needs}
-use Rattle.output.proofs.calls.flush_whitespace.Statement.{statement}
+use Rattle.text.proofs.Base.{refl, needs}
+use Rattle.output.proofs.{CallLaws.flush-is, CallLaws.made-ready, calls.flush_whitespace.Statement.statement}
 use Rattle.output.proofs.calls.flush_whitespace.Tie as tie
 
 returns : tie.Need-returns
 returns c =
-    let at-ready = c .before .before .before .before in
-    let start = at-ready .before .before .before .before .before in
-    ran-ready (start .args .run) (at-ready .ready .ensures) refl (flush-is (start .args .queue .now) refl (c .before .before .put .ensures))
+    let at-stops = c .before .before .before .before .before .before in let start = at-stops .before .before .before .before .before in
+    made-ready (at-stops .stops .ensures) refl
+    (flush-is (start .args .queue .now) refl (c .before .before .put .ensures))
 
 pub flush-whitespace-spec : {M : Type 1} → statement M
-flush-whitespace-spec =
-    tie.close
-    (tie.spec
-    (λ c κs. search needs)
-    (λ c. search needs)
-    (λ c κs. search needs)
-    (λ c. search needs)
-    returns)
+flush-whitespace-spec = tie.close (tie.spec (λ c κs. search needs) (λ c. search needs) (λ c κs. search needs) (λ c. search needs) returns)

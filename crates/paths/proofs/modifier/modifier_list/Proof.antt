@@ -1,75 +1,36 @@
--- `paths::modifier::modifier_list` meets its contract. The invariant: what is left to do from here on gives what the whole gives. Assumes nothing.
-use mathlib.Core.Path.{_∙_}
-use mathlib.Core.Bool.{true}
-use lib.ListN.{length}
-use Rattle.tree.specs.Table.{treeOf}
-use Rattle.meaning.proofs.Chain as chain
-use Rattle.steps.specs.Stream.{streamOf}
-use Rattle.steps.proofs.FlowLaws.{_▹_, keeps}
-use Rattle.steps.proofs.ItemLaws.{begun}
-use Rattle.steps.proofs.LoopLaws.{falls, starts, goes-on, done}
-use Rattle.steps.proofs.RuleLaws.{Listing}
-use Rattle.paths.proofs.ModifierLaws.{modifiers-fall, spaced-behind}
-use Rattle.paths.specs.Attribute.{modifierTurn, modifierList}
-use borrow.Author.Needs.{needs}
-use Rattle.paths.proofs.modifier.modifier_list.Statement.{statement}
+-- `paths::modifier::modifier_list` meets its contract. Assumes nothing.
+use Rattle.steps.proofs.Rules.{true, ℕ, length, treeOf, scriptOf, engine, streamAt, _▹_, pumped, parsed, Seeing, none-seen, next-seen, seen-less}
+use Rattle.steps.proofs.Rules.{all-seen, last-done, keeps, needs}
+use Rattle.paths.specs.Attribute.{nextModifier, modifierList}
+use Rattle.paths.proofs.{ModifierLaws.modifiers-take, modifier.modifier_list.Statement.statement}
 use Rattle.paths.proofs.modifier.modifier_list.Tie as tie
 
 abbrev Inv-loop : tie.InvT-loop
-Inv-loop src table queue₀ out₀ s₀ queue out s = Listing src table (λ rs k. true) modifierTurn s₀ queue₀ out₀ s queue out
+Inv-loop src table fmt₀ queue₀ out₀ p₀ any₀ fmt queue out p any = let rs = treeOf table in Seeing (scriptOf src table) (λ (k : ℕ). true) (nextModifier rs) (streamAt rs p₀) (engine fmt₀ queue₀ out₀) (streamAt rs p) (engine fmt queue out) any
 
 abbrev μ-loop : tie.MeasureT-loop
-μ-loop src table queue₀ out₀ s₀ queue out s = length (streamOf (treeOf table) (s .p) .left)
-
-loop-holds : tie.Need-loop-holds Inv-loop μ-loop
-loop-holds c = starts
+μ-loop src table fmt₀ queue₀ out₀ p₀ any₀ fmt queue out p any = length (streamAt (treeOf table) p .left)
 
 loop-less : tie.Need-loop-less Inv-loop μ-loop
 loop-less c =
-    let then1 = c .before .before .before .before .before in
-    let start = then1 .before .before .before .before .before .before .before in
-    falls (modifiers-fall (treeOf (start .args .table .now))) (then1 .before .has-next .ensures) (then1 .if1 .taken)
-    (c .before .before .modifier-turn .ensures)
+    let at-pump = c .before .before .before .before .before .before in let at-if1 = at-pump .before .before .before in
+    let at-has-next = at-if1 .before in let at-loop = at-has-next .before .before in let start = at-loop .before .before .before .before .before in
+    let rs = treeOf (start .args .table .now) in seen-less _ (nextModifier rs) (at-loop .loop .any) (modifiers-take rs) (at-has-next .has-next .ensures) (at-if1 .if1 .taken) (pumped _ (at-pump .pump .ensures) (c .before .before .modifier .ensures))
 
 loop-again : tie.Need-loop-again Inv-loop μ-loop
 loop-again c =
-    let then1 = c .before .before .before .before .before in
-    let at-loop = then1 .before .before in
-    let start = at-loop .before .before .before .before .before in
-    goes-on (modifiers-fall (treeOf (start .args .table .now))) (then1 .before .has-next .ensures) (then1 .if1 .taken)
-    (c .before .before .modifier-turn .ensures) (at-loop .loop .inv)
-
-same-length : tie.Need-same-length Inv-loop μ-loop
-same-length c =
-    let at-apart = c .before .before .before in
-    let else1 = at-apart .before .before .before in
-    let at-loop = else1 .before .before in
-    chain.keeps (at-apart .apart .ensures) ∙ keeps (done (else1 .before .has-next .ensures) (else1 .if1 .left) (at-loop .loop .inv))
+    let at-pump = c .before .before .before .before .before .before in let at-if1 = at-pump .before .before .before in
+    let at-has-next = at-if1 .before in let at-loop = at-has-next .before .before in let start = at-loop .before .before .before .before .before in
+    let rs = treeOf (start .args .table .now) in next-seen _ (nextModifier rs) (at-loop .loop .any) (modifiers-take rs) (at-has-next .has-next .ensures) (at-if1 .if1 .taken) (pumped _ (at-pump .pump .ensures) (c .before .before .modifier .ensures)) (at-loop .loop .inv)
 
 returns : tie.Need-returns Inv-loop μ-loop
 unfolding modifierList
 returns c =
-    let at-apart = c .before .before .before in
-    let else1 = at-apart .before .before .before in
-    let at-loop = else1 .before .before in
-    let at-first = at-loop .before in
-    let start = at-first .before .before .before .before in
-    let rs = treeOf (start .args .table .now) in
-    begun rs (start .args .queue .now) (start .args .out .now) (at-first .first .ensures)
-    ▹ done (else1 .before .has-next .ensures) (else1 .if1 .left) (at-loop .loop .inv) ▹ spaced-behind rs (at-loop .loop .s) (at-apart .apart .ensures)
+    let at-apart = c .before .before .before .before .before in let at-if1 = at-apart .before .before .before .before in
+    let at-has-next = at-if1 .before in let at-loop = at-has-next .before .before in let at-records-of = at-loop .before in
+    parsed _ _ (at-records-of .records-of .ensures) (all-seen _ (at-has-next .has-next .ensures) (at-if1 .if1 .left) (at-loop .loop .inv) ▹ last-done _ (at-apart .apart .ensures)) (c .left-over .ensures)
 
 pub modifier-list-spec : {M : Type 1} → statement M
 modifier-list-spec =
-    tie.close
-    (tie.spec
-    Inv-loop
-    μ-loop
-    (λ c κs. search needs)
-    loop-holds
-    (λ c κs. search needs)
-    (λ c κs. search needs)
-    loop-less
-    loop-again
-    (λ c κs. search needs)
-    same-length
-    returns)
+    tie.close (tie.spec Inv-loop μ-loop (λ c κs. search needs) (λ c. none-seen _) (λ c κs. search needs) (λ c κs. search needs) (λ c κs. search needs)
+    loop-less loop-again (λ c κs. search needs) (λ c κs. search needs) (λ c. keeps (returns c)) returns)

@@ -1,48 +1,47 @@
 -- `patterns::fn_args::fn_args` meets its contract. Assumes nothing.
-use mathlib.Core.Path.{_∙_}
-use Rattle.tree.specs.Table.{treeOf}
-use Rattle.kinds.specs.Facts.{byteOf, factsOf}
-use Rattle.steps.proofs.FlowLaws.{_▹_, keeps}
-use Rattle.steps.proofs.ItemLaws.{begun}
-use Rattle.steps.specs.Items.{items, list}
-use Rattle.patterns.specs.Pattern.{fnArgs}
-use borrow.Author.Needs.{needs}
+use Rattle.steps.proofs.Rules.{length, byteOf, factsOf, Kind, treeOf, scriptOf, engine, streamAt, is, ignore, remainingOf, turn, listed, suffix, _▹_}
+use Rattle.steps.proofs.Rules.{pumped, parsed, rest-then, Listing, no-item, next-item, item-less, listed-all, keeps, needs}
+use Rattle.steps.specs.declared.remaining.Mark.the-variants.{Comma}
+use Rattle.patterns.specs.Pattern.{pat, noComma, fnArgs}
 use Rattle.patterns.proofs.fn_args.fn_args.Statement.{statement}
 use Rattle.patterns.proofs.fn_args.fn_args.Tie as tie
 
-same-length : tie.Need-same-length
-same-length c =
-    let at-close = c .before .before .before .before .before .before .before in
-    let at-args2 = at-close .before .before .before .before .before in
-    let at-no-comma = at-args2 .before .before .before .before .before .before in
-    let at-token = at-no-comma .before .before .before .before .before in
-    keeps (c .before .before .token2 .ensures) ∙ keeps (at-close .close .ensures) ∙ keeps (at-args2 .args2 .ensures) ∙ keeps (at-no-comma .no-comma .ensures)
-    ∙ keeps (at-token .token .ensures)
+abbrev Inv-loop : tie.InvT-loop
+Inv-loop src table fmt₀ queue₀ out₀ p₀ comma₀ fmt queue out p comma = let rs = treeOf table in Listing (scriptOf src table) (is rs Kind.Pat) (turn rs (listed (pat rs 64)) suffix) (streamAt rs p₀) (engine fmt₀ queue₀ out₀) (streamAt rs p) (engine fmt queue out) (remainingOf Comma comma)
 
-returns : tie.Need-returns
-unfolding fnArgs list items byteOf factsOf
+abbrev μ-loop : tie.MeasureT-loop
+μ-loop src table fmt₀ queue₀ out₀ p₀ comma₀ fmt queue out p comma = length (streamAt (treeOf table) p .left)
+
+loop-less : tie.Need-loop-less Inv-loop μ-loop
+unfolding byteOf factsOf
+loop-less c =
+    let at-pat = c .before .before .before .before .before .before .before .before .before in let at-pump = at-pat .before .before .before .before in
+    let at-before-item = at-pump .before .before .before .before .before in let at-if1 = at-before-item .before .before .before .before in
+    let at-next-is = at-if1 .before in let at-loop = at-next-is .before .before in
+    item-less _ _ _ (at-next-is .next-is .ensures) (at-if1 .if1 .taken) (at-before-item .before-item .ensures) (pumped _ (at-pump .pump .ensures) (at-pat .pat .ensures)) (c .before .before .behind-item .ensures) (at-loop .loop .inv)
+
+loop-again : tie.Need-loop-again Inv-loop μ-loop
+unfolding byteOf factsOf
+loop-again c =
+    let at-pat = c .before .before .before .before .before .before .before .before .before in let at-pump = at-pat .before .before .before .before in
+    let at-before-item = at-pump .before .before .before .before .before in let at-if1 = at-before-item .before .before .before .before in
+    let at-next-is = at-if1 .before in let at-loop = at-next-is .before .before in
+    next-item _ _ _ (at-next-is .next-is .ensures) (at-if1 .if1 .taken) (at-before-item .before-item .ensures) (pumped _ (at-pump .pump .ensures) (at-pat .pat .ensures)) (c .before .before .behind-item .ensures) (at-loop .loop .inv)
+
+returns : tie.Need-returns Inv-loop μ-loop
+unfolding fnArgs noComma byteOf factsOf
 returns c =
-    let at-close = c .before .before .before .before .before .before .before in
-    let at-args2 = at-close .before .before .before .before .before in
-    let at-first = at-args2 .before in
-    let at-no-comma = at-first .before .before .before .before .before in
-    let at-token = at-no-comma .before .before .before .before .before in
-    let start = at-token .before .before .before .before .before .before in
-    at-token .token .ensures ▹ at-no-comma .no-comma .ensures
-    ▹ ((begun (treeOf (start .args .table .now)) (at-no-comma .no-comma .last .1 .1 .0) (at-no-comma .no-comma .last .1 .1 .1 .0) (at-first .first .ensures)
-    ▹ at-args2 .args2 .ensures)
-    ▹ at-close .close .ensures)
-    ▹ c .before .before .token2 .ensures
+    let at-token2 = c .before .before .before .before .before in
+    let at-close-list = at-token2 .before .before .before .before .before .before .before in
+    let at-if1 = at-close-list .before .before .before .before in let at-next-is = at-if1 .before in let at-loop = at-next-is .before .before in
+    let at-pass = at-loop .before .before .before .before in let at-take-remaining = at-pass .before .before .before .before in
+    let at-token = at-take-remaining .before .before .before .before .before in
+    let at-records-of = at-token .before .before .before .before .before in
+    parsed _ _ (at-records-of .records-of .ensures) (at-token .token .ensures ▹ rest-then ignore (at-take-remaining .take-remaining .ensures) (at-pass .pass .ensures Comma) ▹ listed-all _ _ (at-next-is .next-is .ensures) (at-if1 .if1 .left) (at-loop .loop .inv) (at-close-list .close-list .ensures) ▹ at-token2 .token2 .ensures) (c .left-over .ensures)
 
 pub fn-args-spec : {M : Type 1} → statement M
 fn-args-spec =
-    tie.close
-    (tie.spec
-    (λ c κs. search needs)
-    (λ c κs. search needs)
-    (λ c κs. search needs)
-    (λ c κs. search needs)
-    (λ c κs. search needs)
-    (λ c κs. search needs)
-    same-length
-    returns)
+    tie.close (tie.spec Inv-loop μ-loop (λ c κs. search needs) (λ c κs. search needs) (λ c κs. search needs) (λ c κs. search needs)
+    (λ c κs. search needs) (λ c. no-item _ (c .fresh .ensures)) (λ c κs. search needs) (λ c κs. search needs) (λ c κs. search needs)
+    (λ c κs. search needs) (λ c κs. search needs) loop-less loop-again (λ c κs. search needs) (λ c κs. search needs) (λ c κs. search needs)
+    (λ c. keeps (returns c)) returns)

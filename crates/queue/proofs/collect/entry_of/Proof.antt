@@ -1,10 +1,7 @@
 -- `queue::collect::entry_of` meets its contract: by children, then by kind. Assumes nothing.
+use Rattle.text.proofs.Base.{_≡_, ap, needs, arith}
 use Rattle.meaning.specs.Collect.{blank, entryOf}
-use Rattle.queue.proofs.GatherLaws.{at-inner, at-stop}
-use mathlib.Core.Path.{_≡_, ap}
-use borrow.Author.Needs.{needs}
-use native.Mathlib.Omega.{arith}
-use Rattle.queue.proofs.collect.entry_of.Statement.{statement}
+use Rattle.queue.proofs.{GatherLaws.at-inner, GatherLaws.at-stop, collect.entry_of.Statement.statement}
 use Rattle.queue.proofs.collect.entry_of.Tie as tie
 
 returns : tie.Need-returns
@@ -35,18 +32,9 @@ returns-4 c =
 returns-5 : tie.Need-returns-5
 unfolding entryOf
 returns-5 c =
-    let else2 = c .before .before .before .before in
-    let start = else2 .before .before .before .before .before in
+    let else2 = c .before .before .before .before in let start = else2 .before .before .before .before .before in
     let z : start .args .r .below ≡ 0 = omega arith in
     rw z (at-stop _ _ _ (else2 .if2 .left) (c .before .before .if3 .left) (c .if4 .left))
 
 pub entry-of-spec : {M : Type 1} → statement M
-entry-of-spec =
-    tie.close
-    (tie.spec
-    returns
-    (λ c κs. search needs)
-    returns-2
-    returns-3
-    returns-4
-    returns-5)
+entry-of-spec = tie.close (tie.spec returns (λ c κs. search needs) returns-2 returns-3 returns-4 returns-5)

@@ -1,11 +1,7 @@
 -- `queue::collect::newlines_in` meets its contract. Assumes nothing.
-use Rattle.queue.proofs.GatherLaws.{newlines-fit}
-use mathlib.Core.Path.{_∙_, _≡_, ap}
-use Rattle.text.specs.Span.{textOf}
-use Rattle.text.specs.Lines.{newlines}
-use borrow.Author.Needs.{needs}
-use native.Mathlib.Omega.{arith}
-use Rattle.queue.proofs.collect.newlines_in.Statement.{statement}
+use Rattle.text.proofs.Base.{_∙_, _≡_, ap, needs, arith}
+use Rattle.queue.proofs.{GatherLaws.newlines-fit, collect.newlines_in.Statement.statement}
+use Rattle.text.specs.{Span.textOf, Lines.newlines}
 use Rattle.queue.proofs.collect.newlines_in.Tie as tie
 
 cast-result : tie.Need-cast-result
@@ -19,10 +15,4 @@ returns : tie.Need-returns
 returns c = c .count-newlines .ensures ∙ ap newlines (c .before .part .ensures)
 
 pub newlines-in-spec : {M : Type 1} → statement M
-newlines-in-spec =
-    tie.close
-    (tie.spec
-    (λ c κs. search needs)
-    (λ c κs. search needs)
-    cast-result
-    returns)
+newlines-in-spec = tie.close (tie.spec (λ c κs. search needs) (λ c κs. search needs) cast-result returns)

@@ -1,7 +1,6 @@
 -- `queue::release::letters` meets its contract. Assumes nothing.
-use mathlib.Core.Path.{_∙_, ap}
+use Rattle.text.proofs.Base.{_∙_, ap, needs}
 use Rattle.text.specs.Lines.{trim}
-use borrow.Author.Needs.{needs}
 use Rattle.queue.proofs.release.letters.Statement.{statement}
 use Rattle.queue.proofs.release.letters.Tie as tie
 
@@ -17,13 +16,4 @@ returns-3 : tie.Need-returns-3
 returns-3 c = rw (c .enum-told2 .given .1) (c .before .before .part .ensures)
 
 pub letters-spec : {M : Type 1} → statement M
-letters-spec =
-    tie.close
-    (tie.spec
-    (λ c κs. search needs)
-    (λ c. search needs)
-    (λ c κs. search needs)
-    returns
-    (λ c. search needs)
-    returns-2
-    returns-3)
+letters-spec = tie.close (tie.spec (λ c κs. search needs) (λ c. search needs) (λ c κs. search needs) returns (λ c. search needs) returns-2 returns-3)

@@ -1,5 +1,5 @@
 -- `queue::release::stops` meets its contract. Assumes nothing.
-use borrow.Author.Needs.{needs}
+use Rattle.text.proofs.Base.{needs}
 use Rattle.queue.proofs.release.stops.Statement.{statement}
 use Rattle.queue.proofs.release.stops.Tie as tie
 
@@ -7,11 +7,4 @@ returns : tie.Need-returns
 returns c = rw (c .before .before .before .way .given .1, c .before .if1 .taken)
 
 pub stops-spec : {M : Type 1} → statement M
-stops-spec =
-    tie.close
-    (tie.spec
-    (λ c. search needs)
-    returns
-    (λ c. search needs)
-    (λ c. search needs)
-    (λ c. search needs))
+stops-spec = tie.close (tie.spec (λ c. search needs) returns (λ c. search needs) (λ c. search needs) (λ c. search needs))

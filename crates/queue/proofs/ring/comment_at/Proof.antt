@@ -1,30 +1,15 @@
 -- `queue::ring::comment_at` meets its contract. Assumes nothing.
+use Rattle.text.proofs.Base.{ap, needs}
 use Rattle.queue.specs.View.{commentFrom}
-use mathlib.Core.Path.{ap}
-use borrow.Author.Needs.{needs}
 use Rattle.queue.proofs.ring.comment_at.Statement.{statement}
 use Rattle.queue.proofs.ring.comment_at.Tie as tie
 
 returns : tie.Need-returns
 returns c =
-    let at-slot = c .before .before .before .before in
-    let start = at-slot .before in
+    let at-slot = c .before .before .before .before in let start = at-slot .before in
     ap (commentFrom (start .args .queue .now)) (at-slot .slot .ensures)
 
 pub comment-at-spec : {M : Type 1} → statement M
 comment-at-spec =
-    tie.close
-    (tie.spec
-    (λ c κs. search needs)
-    (λ c. search needs)
-    (λ c. search needs)
-    (λ c. search needs)
-    (λ c. search needs)
-    (λ c. search needs)
-    (λ c. search needs)
-    (λ c. search needs)
-    (λ c. search needs)
-    (λ c. search needs)
-    (λ c. search needs)
-    (λ c. search needs)
-    returns)
+    tie.close (tie.spec (λ c κs. search needs) (λ c. search needs) (λ c. search needs) (λ c. search needs) (λ c. search needs) (λ c. search needs)
+    (λ c. search needs) (λ c. search needs) (λ c. search needs) (λ c. search needs) (λ c. search needs) (λ c. search needs) returns)

@@ -1,9 +1,7 @@
 -- `queue::ring::push` meets its contract: a comment's words behind the last comment's. Assumes nothing.
-use Rattle.queue.proofs.RingLaws.{push-law}
+use Rattle.text.proofs.Base.{needs, arith}
+use Rattle.queue.proofs.{RingLaws.push-law, ring.push.Statement.statement}
 use Rattle.queue.specs.View.{asComment}
-use borrow.Author.Needs.{needs}
-use native.Mathlib.Omega.{arith}
-use Rattle.queue.proofs.ring.push.Statement.{statement}
 use Rattle.queue.proofs.ring.push.Tie as tie
 
 returns : tie.Need-returns
@@ -14,10 +12,4 @@ returns c =
     (start .pre) (c .before .slot .ensures))
 
 pub push-spec : {M : Type 1} → statement M
-push-spec =
-    tie.close
-    (tie.spec
-    (λ c κs. search needs)
-    (λ c κs. search needs)
-    (λ c κs. omega (arith, c .slot .ensures))
-    returns)
+push-spec = tie.close (tie.spec (λ c κs. search needs) (λ c κs. search needs) (λ c κs. omega (arith, c .slot .ensures)) returns)

@@ -1,11 +1,7 @@
 -- `queue::ring::tidy` meets its contract. The invariant: i comments from slot 0 on, and zero behind them. Assumes nothing.
-use Prim.Native.Nat.{_-_, _≤_, min}
-use Rattle.queue.proofs.SlotLaws.{Filling, fill-start}
-use mathlib.Core.Path.{_≡_, refl}
+use Rattle.text.proofs.Base.{_-_, _≤_, min, _≡_, refl, needs, arith}
+use Rattle.queue.proofs.{SlotLaws.Filling, SlotLaws.fill-start, ring.tidy.Statement.statement}
 use Rattle.queue.proofs.SlotLaws as slots
-use borrow.Author.Needs.{needs}
-use native.Mathlib.Omega.{arith}
-use Rattle.queue.proofs.ring.tidy.Statement.{statement}
 use Rattle.queue.proofs.ring.tidy.Tie as tie
 
 abbrev Inv-loop : tie.InvT-loop
@@ -32,17 +28,5 @@ returns c = slots.fill-end (c .before .before .before .args .count) (c .before .
 
 pub tidy-spec : {M : Type 1} → statement M
 tidy-spec =
-    tie.close
-    (tie.spec
-    Inv-loop
-    μ-loop
-    (λ c κs. search needs)
-    (λ c. (c .at-most .ensures .0, c .at-most .ensures .1, fill-start))
-    (λ c κs. search needs)
-    (λ c. search needs)
-    (λ c. search needs)
-    store-requires
-    (λ c. search needs)
-    (λ c. search needs)
-    loop-again
-    returns)
+    tie.close (tie.spec Inv-loop μ-loop (λ c κs. search needs) (λ c. (c .at-most .ensures .0, c .at-most .ensures .1, fill-start))
+    (λ c κs. search needs) (λ c. search needs) (λ c. search needs) store-requires (λ c. search needs) (λ c. search needs) loop-again returns)

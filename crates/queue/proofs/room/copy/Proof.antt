@@ -1,13 +1,9 @@
 -- `queue::room::copy` meets its contract. The invariant: the rest from here is the whole from the start. Assumes nothing.
-use Prim.Native.Nat.{_+_, _-_, _≤_}
+use Rattle.text.proofs.Base.{_+_, _-_, _≤_, drop, length, _∙_, _≡_, sym, needs}
 use Rattle.meaning.specs.CallRecord.{at}
-use Rattle.queue.proofs.WriteLaws.{copy-end, copy-turn}
-use lib.ListN.{drop, length}
+use Rattle.queue.proofs.{WriteLaws.copy-end, WriteLaws.copy-turn, room.copy.Statement.statement}
 use lib.Seq.{sets}
-use mathlib.Core.Path.{_∙_, _≡_, sym}
 use native.Mathlib.Nat.{add-zero}
-use borrow.Author.Needs.{needs}
-use Rattle.queue.proofs.room.copy.Statement.{statement}
 use Rattle.queue.proofs.room.copy.Tie as tie
 
 abbrev Inv-loop : tie.InvT-loop
@@ -26,16 +22,5 @@ returns c = sym (copy-end _ _ _ _ (c .loop-test .left)) ∙ c .before .loop .inv
 
 pub copy-spec : {M : Type 1} → statement M
 copy-spec =
-    tie.close
-    (tie.spec
-    Inv-loop
-    μ-loop
-    (λ c. (search needs, search needs, search needs, rw add-zero))
-    (λ c. search needs)
-    (λ c. search needs)
-    (λ c. search needs)
-    (λ c. search needs)
-    (λ c. search needs)
-    loop-again
-    (λ c. search needs)
-    returns)
+    tie.close (tie.spec Inv-loop μ-loop (λ c. (search needs, search needs, search needs, rw add-zero)) (λ c. search needs) (λ c. search needs)
+    (λ c. search needs) (λ c. search needs) (λ c. search needs) loop-again (λ c. search needs) returns)

@@ -1,13 +1,9 @@
 -- `queue::room::fill` meets its contract. The invariant: the rest from here is the whole from the start. Assumes nothing.
-use Prim.Native.Nat.{_+_, _-_, _≤_}
+use Rattle.text.proofs.Base.{_+_, _-_, _≤_, length, _∙_, _≡_, sym, needs, arith}
 use Rattle.meaning.specs.CallRecord.{at}
-use Rattle.queue.proofs.WriteLaws.{fill-end, fill-turn}
-use lib.ListN.{length, replicate}
+use Rattle.queue.proofs.{WriteLaws.fill-end, WriteLaws.fill-turn, room.fill.Statement.statement}
+use lib.ListN.{replicate}
 use lib.Seq.{sets}
-use mathlib.Core.Path.{_∙_, _≡_, sym}
-use borrow.Author.Needs.{needs}
-use native.Mathlib.Omega.{arith}
-use Rattle.queue.proofs.room.fill.Statement.{statement}
 use Rattle.queue.proofs.room.fill.Tie as tie
 
 abbrev Inv-loop : tie.InvT-loop
@@ -29,15 +25,5 @@ returns c = sym (fill-end _ _ _ _ (c .loop-test .left)) ∙ c .before .loop .inv
 
 pub fill-spec : {M : Type 1} → statement M
 fill-spec =
-    tie.close
-    (tie.spec
-    Inv-loop
-    μ-loop
-    (λ c. search needs)
-    loop-holds
-    (λ c. search needs)
-    (λ c. search needs)
-    (λ c. search needs)
-    loop-again
-    (λ c. search needs)
-    returns)
+    tie.close (tie.spec Inv-loop μ-loop (λ c. search needs) loop-holds (λ c. search needs) (λ c. search needs) (λ c. search needs) loop-again
+    (λ c. search needs) returns)

@@ -1,8 +1,5 @@
 -- `queue::room::passes` meets its contract: each way to be short of room. Assumes nothing.
-use Prim.Native.Nat.{_+_, ℕ}
-use borrow.Author.Tests.{le-ltb, lt-ltb}
-use mathlib.Core.Path.{_≡_}
-use native.Mathlib.Omega.{arith}
+use Rattle.text.proofs.Base.{_+_, ℕ, le-ltb, lt-ltb, _≡_, arith}
 use Rattle.queue.proofs.room.passes.Statement.{statement}
 use Rattle.queue.proofs.room.passes.Tie as tie
 
@@ -44,11 +41,4 @@ returns-5 c =
     (simp (le-ltb (start .args .cap) (start .args .at + (start .args .gap .lines + start .args .gap .spaces) + start .args .n) (omega arith)), λ h. omega arith)
 
 pub passes-spec : {M : Type 1} → statement M
-passes-spec =
-    tie.close
-    (tie.spec
-    returns
-    returns-2
-    returns-3
-    returns-4
-    returns-5)
+passes-spec = tie.close (tie.spec returns returns-2 returns-3 returns-4 returns-5)

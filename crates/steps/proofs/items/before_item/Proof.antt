@@ -1,26 +1,21 @@
 -- `steps::items::before_item` meets its contract. Assumes nothing.
-use mathlib.Core.Path.{_∙_}
-use Rattle.meaning.proofs.Chain as chain
-use Rattle.steps.proofs.FlowLaws.{keeps}
-use borrow.Author.Needs.{needs}
-use Rattle.steps.proofs.items.before_item.Statement.{statement}
+use Rattle.text.proofs.Base.{needs}
+use Rattle.queue.proofs.MadeLaws.{_▹_, keeps}
+use Rattle.steps.proofs.{ItemLaws.separated-yes, ItemLaws.separated-no, items.before_item.Statement.statement}
 use Rattle.steps.proofs.items.before_item.Tie as tie
-
-same-length : tie.Need-same-length
-same-length c =
-    let at-comments = c .before .before .before .before .before .before .before in
-    chain.keeps (c .before .before .separate .ensures) ∙ chain.keeps (at-comments .comments .ensures)
 
 returns : tie.Need-returns
 returns c =
-    let at-comments = c .before .before .before .before .before .before .before in
-    chain._▹_ (at-comments .comments .ensures) (c .before .before .separate .ensures)
+    let at-if1 = c .before .before .before .before .before .before in let at-says = at-if1 .before in let at-put = at-says .before .before .before in
+    let at-comments = at-put .before .before .before .before .before .before in
+    at-comments .comments .ensures ▹ separated-yes _ (at-says .says .ensures _) (at-put .put .ensures) (at-if1 .if1 .taken) (c .before .before .ws .ensures)
+
+returns-2 : tie.Need-returns-2
+returns-2 c =
+    let at-put = c .before .before .before .before in let at-comments = at-put .before .before .before .before .before .before in
+    at-comments .comments .ensures ▹ separated-no _ (c .before .says .ensures _) (at-put .put .ensures) (c .if1 .left)
 
 pub before-item-spec : {M : Type 1} → statement M
 before-item-spec =
-    tie.close
-    (tie.spec
-    (λ c κs. search needs)
-    (λ c κs. search needs)
-    same-length
-    returns)
+    tie.close (tie.spec (λ c κs. search needs) (λ c κs. search needs) (λ c κs. search needs) (λ c κs. search needs) (λ c. search needs) returns
+    (λ c. search needs) returns-2)

@@ -1,9 +1,7 @@
 -- `steps::remaining::byte_of` meets its contract. Assumes nothing.
-use mathlib.Core.Path.{sym, ap}
+use Rattle.text.proofs.Base.{sym, ap, needs}
 use Rattle.kinds.specs.Facts.{byteOf, factsOf}
-use Rattle.steps.specs.Remaining.{tokenOf}
-use Rattle.steps.specs.declared.remaining.Mark.{Mark}
-use borrow.Author.Needs.{needs}
+use Rattle.steps.specs.{Remaining.tokenOf, declared.remaining.Mark.Mark}
 use Rattle.steps.proofs.remaining.byte_of.Statement.{statement}
 use Rattle.steps.proofs.remaining.byte_of.Tie as tie
 
@@ -25,13 +23,4 @@ returns-4 c = ap (λ (m : Mark). byteOf (tokenOf m)) (sym (c .enum-told4 .given 
 
 pub byte-of-spec : {M : Type 1} → statement M
 byte-of-spec =
-    tie.close
-    (tie.spec
-    (λ c. search needs)
-    (λ c. search needs)
-    (λ c. search needs)
-    (λ c. search needs)
-    returns
-    returns-2
-    returns-3
-    returns-4)
+    tie.close (tie.spec (λ c. search needs) (λ c. search needs) (λ c. search needs) (λ c. search needs) returns returns-2 returns-3 returns-4)

@@ -1,20 +1,19 @@
 -- `steps::stream::eat` meets its contract. Assumes nothing.
-use Rattle.steps.proofs.StreamLaws.{took-if, took-none}
-use borrow.Author.Needs.{needs}
-use Rattle.steps.proofs.stream.eat.Statement.{statement}
+use Rattle.text.proofs.Base.{arith, needs}
+use Rattle.tree.specs.Table.{treeOf}
+use Rattle.steps.specs.Stream.{streamAt}
+use Rattle.steps.proofs.{StreamLaws.took-if, StreamLaws.took-not, stream.eat.Statement.statement}
 use Rattle.steps.proofs.stream.eat.Tie as tie
 
 returns : tie.Need-returns
-returns c = took-if _ (c .before .before .before .before .args .p) _ (c .before .before .next-is .ensures) (c .before .if1 .taken) (c .take-any .ensures)
+returns c =
+    let at-next-is = c .before .before .before in let start = at-next-is .before .before .before in
+    took-if _ (streamAt (treeOf (start .args .table .now)) (start .args .p .now)) (at-next-is .next-is .ensures) (c .before .before .if1 .taken) (c .take .ensures)
 
 returns-2 : tie.Need-returns-2
-returns-2 c = took-none _ (c .before .before .before .args .p) _ (c .before .next-is .ensures) (c .if1 .left)
+returns-2 c =
+    let start = c .before .before .before .before .before in
+    took-not _ (streamAt (treeOf (start .args .table .now)) (start .args .p .now)) (c .before .before .next-is .ensures) (c .before .if1 .left) (rw (c .nothing .ensures) (omega arith))
 
 pub eat-spec : {M : Type 1} → statement M
-eat-spec =
-    tie.close
-    (tie.spec
-    (λ c κs. search needs)
-    (λ c κs. search needs)
-    returns
-    returns-2)
+eat-spec = tie.close (tie.spec (λ c κs. search needs) (λ c κs. search needs) returns (λ c κs. search needs) returns-2)
