@@ -28,10 +28,10 @@ abbrev level-below : ℕ → In 2 level-kinds.ps
 level-below t = and 2 level-kinds.ps (falls 2 level-kinds.ps _<_ μ-level t) level.Pre
 
 abbrev level-Inv-loop : level-lts.InvT-loop
-level-Inv-loop src list hi d part₀ part = Going src list part₀ hi d part
+level-Inv-loop src list hi d part₀ part = Going src list part₀ (hi .0) d part
 
 abbrev level-μ-loop : level-lts.MeasureT-loop
-level-μ-loop src list hi d part₀ part = part .left
+level-μ-loop src list hi d part₀ part = part .left .0
 
 module _ (t : ℕ) where
   abbrev claims : level-lts.Claims
@@ -51,7 +51,7 @@ module _ (t : ℕ) where
   met : (n : level-lts.After-n2 claims (level-at t) level.Post level-Inv-loop level-μ-loop) →
       let at-loop = n .before .before .before .before .before in
       let start = at-loop .before .before .before in
-      Meets (start .args .src .now) (start .args .list .now) (start .args .all) (start .args .hi) (start .args .d) (at-loop .loop .part) (n .n2 .given .0 .0)
+      Meets (start .args .src .now) (start .args .list .now) (start .args .all) (start .args .hi .0) (start .args .d) (at-loop .loop .part) (n .n2 .given .0 .0)
   met n =
       let then1 = n .before .before .before in
       let at-loop = then1 .before .before in
@@ -141,7 +141,7 @@ module _ (t : ℕ) where
   closed =
       level-lts.spec claims (level-at t) level.Post level-Inv-loop level-μ-loop
       loop-holds (λ c κs. search needs) (λ c. search needs) returns (λ c. search needs) returns-2 inside-requires behind-requires loop-less loop-again
-      (λ c. search needs) (λ c. omega arith) level-requires (λ c. search needs) behind-requires-2 loop-less-2 loop-again-2 (λ c. search needs)
+      (λ c. omega arith) level-requires (λ c. search needs) behind-requires-2 loop-less-2 loop-again-2 (λ c. search needs)
       returns-3 (λ c. search needs) returns-4 returns-5
 
 pub +level-spec : {M : Type 1} → statement M

@@ -13,5 +13,4 @@ inside-spec =
     (λ c. omega (arith, c .body .ensures))
     (λ c. search needs)
     (λ c. search needs)
-    (λ c. search needs)
     (λ c. cc))

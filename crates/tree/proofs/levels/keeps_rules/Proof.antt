@@ -9,24 +9,30 @@ use Rattle.tree.proofs.levels.keeps_rules.Tie as tie
 returns : tie.Need-returns
 unfolding keeps
 returns c =
-    let then2 = c .before .before .before in
-    let then1 = then2 .before in
+    let then3 = c .before .before .before in
+    let then2 = then3 .before .before in
+    let then1 = then2 .before .before in
     c .in-source .ensures
-    ∙ sym (rw (then1 .if1 .taken, le-leb _ _ (then2 .if2 .taken), le-leb _ _ (c .before .before .if3 .taken), le-leb _ _ (c .before .if4 .taken)))
+    ∙ sym (rw (then1 .if1 .taken, le-leb _ _ (then2 .if2 .taken), le-leb _ _ (then3 .if3 .taken), le-leb _ _ (c .before .if4 .taken)))
 
 returns-2 : tie.Need-returns-2
 unfolding keeps
 returns-2 c =
-    let then1 = c .before .before .before in
-    sym (rw (then1 .if1 .taken, le-leb _ _ (c .before .before .if2 .taken), le-leb _ _ (c .before .if3 .taken), lt-leb _ _ (c .if4 .left)))
+    let then3 = c .before .before in
+    let then2 = then3 .before .before in
+    let then1 = then2 .before .before in
+    sym (rw (then1 .if1 .taken, le-leb _ _ (then2 .if2 .taken), le-leb _ _ (then3 .if3 .taken), lt-leb _ _ (c .if4 .left)))
 
 returns-3 : tie.Need-returns-3
 unfolding keeps
-returns-3 c = sym (rw (c .before .before .if1 .taken, le-leb _ _ (c .before .if2 .taken), lt-leb _ _ (c .if3 .left)))
+returns-3 c =
+    let then2 = c .before .before in
+    let then1 = then2 .before .before in
+    sym (rw (then1 .if1 .taken, le-leb _ _ (then2 .if2 .taken), lt-leb _ _ (c .if3 .left)))
 
 returns-4 : tie.Need-returns-4
 unfolding keeps
-returns-4 c = sym (rw (c .before .if1 .taken, lt-leb _ _ (c .if2 .left)))
+returns-4 c = sym (rw (c .before .before .if1 .taken, lt-leb _ _ (c .if2 .left)))
 
 returns-5 : tie.Need-returns-5
 unfolding keeps
@@ -36,8 +42,6 @@ pub keeps-rules-spec : {M : Type 1} → statement M
 keeps-rules-spec =
     tie.close
     (tie.spec
-    (λ c. search needs)
-    (λ c. search needs)
     (λ c. search needs)
     (λ c κs. search needs)
     returns
