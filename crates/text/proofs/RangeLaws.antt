@@ -8,6 +8,7 @@ use Prim.Native.Nat.{ℕ, zero, suc, _+_, _-_, _≤_, _<_}
 use native.Mathlib.Nat.{add-suc, suc-add}
 use native.Mathlib.Omega.{arith}
 use lib.Dec.{leb, ltb, eqb}
+use lib.ListN.{getD}
 use borrow.Author.Tests.{lt-ltb, le-ltb, le-leb, lt-leb, eq-eqb, ne-eqb}
 use Rattle.text.specs.White.{mem}
 use Rattle.text.proofs.Bools.{or-assoc, le-or-lt}
@@ -17,17 +18,22 @@ abbrev pub upFrom : ℕ → ℕ → List ℕ
 upFrom a zero = []
 upFrom a (suc n) = a ∷ upFrom (suc a) n
 
-abbrev pub spread : List ℕ → List ℕ
+-- a pair is a list of two, as the code's arrays are
+abbrev pub low : List ℕ → ℕ
+low p = getD p 0 0
+
+abbrev pub high : List ℕ → ℕ
+high p = getD p 1 0
+
+abbrev pub spread : List (List ℕ) → List ℕ
 spread [] = []
-spread (lo ∷ []) = []
-spread (lo ∷ hi ∷ r) = upFrom lo (suc hi - lo) ++ spread r
+spread (p ∷ ps) = upFrom (low p) (suc (high p) - low p) ++ spread ps
 
-abbrev pub within : List ℕ → ℕ → Bool
+abbrev pub within : List (List ℕ) → ℕ → Bool
 within [] c = false
-within (lo ∷ []) c = false
-within (lo ∷ hi ∷ r) c = (leb lo c && leb c hi) || within r c
+within (p ∷ ps) c = (leb (low p) c && leb c (high p)) || within ps c
 
--- ---- a pair of ranges is the numbers between them
+-- ---- a pair is the numbers from its first to its last
 
 mem-append : (c : ℕ) (xs ys : List ℕ) → mem c (xs ++ ys) ≡ mem c xs || mem c ys
 unfolding mem
@@ -60,8 +66,7 @@ pair c lo hi = ⊎-elim (λ h. ⊎-elim (λ g. inside h g) (λ g. over h g) (le-
     over : lo ≤ c → hi < c → leb lo c && leb c hi ≡ mem c (upFrom lo (suc hi - lo))
     over h g = rw (le-leb lo c h, lt-leb c hi g) (sym (up c lo (suc hi - lo) ∙ rw (le-leb lo c h, le-ltb c (lo + (suc hi - lo)) (omega arith))))
 
-pub within-spread : (c : ℕ) (t : List ℕ) → within t c ≡ mem c (spread t)
+pub within-spread : (c : ℕ) (t : List (List ℕ)) → within t c ≡ mem c (spread t)
 unfolding mem
 within-spread c [] = refl
-within-spread c (lo ∷ []) = refl
-within-spread c (lo ∷ hi ∷ r) = ap₂ _||_ (pair c lo hi) (within-spread c r) ∙ sym (mem-append c (upFrom lo (suc hi - lo)) (spread r))
+within-spread c (p ∷ ps) = ap₂ _||_ (pair c (low p) (high p)) (within-spread c ps) ∙ sym (mem-append c (upFrom (low p) (suc (high p) - low p)) (spread ps))
