@@ -1,7 +1,7 @@
 -- Answers as one number of 64 bits. Assumes nothing.
 use Prim.Native.Nat.{ℕ, _+_, _*_, _%_}
-use Rattle.text.specs.declared.utf8.Formed.{Formed}
-use Rattle.text.specs.declared.utf8.Formed.the-variants.{Well, Ill}
+use Rattle.unicode.specs.declared.utf8.Formed.{Formed}
+use Rattle.unicode.specs.declared.utf8.Formed.the-variants.{Well, Ill}
 use Rattle.meaning.specs.declared.answer.Answer.{Answer}
 use Rattle.meaning.specs.declared.answer.Answer.the-variants.{Done, Refused}
 use Rattle.meaning.specs.Numbers.{Seen, seen}

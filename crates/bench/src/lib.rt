@@ -14,7 +14,7 @@ use tree::record::RecordNo;
 use tree::table::decode;
 use tree::table::first;
 ghost use mathlib.Core.Path.{_≡_};
-ghost use Rattle.text.specs.Utf8.{formed};
+ghost use Rattle.unicode.specs.Utf8.{formed};
 ghost use Rattle.text.specs.Chars.{counted};
 ghost use Rattle.meaning.specs.Opening.{opening};
 ghost use Rattle.meaning.specs.Numbers.{seen};
@@ -27,7 +27,7 @@ ghost use Rattle.bench.specs.Repeated.{Repeats};
 pub extern "C" fn bench_utf8(s: &[u8]) -> u64
     ensures { λ r. ⌜ r ≡ found (formed (now (s .entry))) ⌝ }
 {
-    finding(text::utf8::check(s))
+    finding(unicode::utf8::check(s))
 }
 
 // The count of characters outside White_Space.

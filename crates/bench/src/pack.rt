@@ -6,7 +6,7 @@ use queue::formatter::Formatter;
 use queue::formatter::answer;
 use queue::formatter::len;
 use queue::formatter::stopped;
-use text::utf8::Formed;
+use unicode::utf8::Formed;
 ghost use mathlib.Core.Path.{_≡_};
 ghost use Rattle.meaning.specs.Numbers.{seen};
 ghost use Rattle.queue.specs.Words.{runOf};

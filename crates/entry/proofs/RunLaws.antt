@@ -5,7 +5,8 @@ use Rattle.text.proofs.Base.{length, take, ltb, drop}
 use lib.ListN.{set, replicate, length-replicate}
 use lib.Seq.{sets, take-set-le, take-all, drop-length, sets-eq}
 use mathlib.Core.List.{append-nil}
-use Rattle.tree.specs.{declared.record.RecordNo.RecordNo, Opening.opened, declared.record.Record.Record, Records.records, Table.treeOf, Table.Decoded}
+use Rattle.tree.specs.{declared.record.RecordNo.RecordNo, declared.record.Record.Record, Records.records, Table.treeOf, Table.Decoded}
+use Rattle.opening.specs.{Opening.opened}
 use Rattle.meaning.specs.{declared.answer.Refusal.Refusal, declared.call.Call.Call, declared.answer.Refusal.the-variants.NoRoom}
 use Rattle.meaning.specs.{declared.answer.Refusal.the-variants.QueueFull, declared.answer.Refusal.the-variants.IndentOut}
 use Rattle.meaning.specs.{declared.answer.Refusal.the-variants.Finished, declared.answer.Answer.Answer, declared.answer.Answer.the-variants.Done}

@@ -2,10 +2,12 @@
 use Rattle.text.proofs.Base.{_≡_, refl, sym, ap, _∙_, Bool, true, false, List, [], _∷_, ℕ, _+_, _*_, _<_, _≤_, arith, length, take, eqb}
 use mathlib.Core.Option.{Option, none, some}
 use native.Mathlib.Nat.{mod-eq-of-lt}
-use Rattle.tree.specs.{declared.record.RecordNo.RecordNo, declared.open.Opening.Opening, Records.records, Opening.opened}
+use Rattle.tree.specs.{declared.record.RecordNo.RecordNo, Records.records}
+use Rattle.opening.specs.{declared.open.Opening.Opening, Opening.opened}
 use Rattle.tree.specs.{declared.record.Record.Record, Table.treeOf, Table.Decoded}
-use Rattle.tree.specs.declared.open.Opening.the-variants as opening
-use Rattle.tree.proofs.Laws.{open-good, table-whole}
+use Rattle.opening.specs.declared.open.Opening.the-variants as opening
+use Rattle.tree.proofs.Laws.{table-whole}
+use Rattle.opening.proofs.Laws.{open-good}
 use Rattle.meaning.specs.{declared.call.Call.Call, declared.answer.Refusal.Refusal, declared.answer.Answer.Answer}
 use Rattle.meaning.specs.{declared.answer.Answer.the-variants.Done, declared.answer.Answer.the-variants.Refused, State.Script, State.State}
 use Rattle.meaning.specs.{CallRecord.decode, Numbers.seen, Numbers.Placed, World.World, World.world, World.Result, World.result, World.call}

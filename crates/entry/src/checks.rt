@@ -1,6 +1,7 @@
 // The checks on what is lent, before all else: 1, 2, 3, 7 as at opening, then 4, 5, 6 on the state.
 use meaning::answer::Answer;
 use meaning::answer::Refusal;
+use opening::open::Opening;
 use queue::formatter::Formatter;
 use queue::formatter::count;
 use queue::formatter::head;
@@ -11,10 +12,9 @@ use queue::formatter::stopped;
 use queue::ring::Queue;
 use queue::ring::comment_at;
 use text::chars::in_source;
-use tree::open::Opening;
 use tree::record::RecordNo;
 ghost use mathlib.Core.Path.{_≡_};
-ghost use Rattle.tree.specs.Opening.{opened};
+ghost use Rattle.opening.specs.Opening.{opened};
 ghost use Rattle.meaning.specs.Lent.{anyOutside};
 ghost use Rattle.meaning.specs.Opening.{answerTo};
 ghost use Rattle.queue.specs.View.{queueOf};
@@ -25,7 +25,7 @@ ghost use Rattle.entry.specs.Served.{lentRun};
 pub fn opening(source: &[u8], tree: &[u8]) -> Answer
     ensures { λ r. ⌜ r ≡ answerTo (opened (now (source .entry)) (now (tree .entry))) ⌝ }
 {
-    let o = tree::open::open(source, tree);
+    let o = opening::open::open(source, tree);
     match o {
         Opening::Good(_) => Answer::Done,
         Opening::SourceLong => Answer::Refused(Refusal::SourceLong),

@@ -1,8 +1,8 @@
 // Opens a script and its tree, as the box does before it lays one out, and says in words what it found:
 //
 //     look SCRIPT TREE
+use opening::open::Opening;
 use text::span::BytePos;
-use tree::open::Opening;
 use tree::record::RecordNo;
 
 // A file's bytes in a buffer: how many, or none found.
@@ -97,6 +97,6 @@ fn main() {
     }
     if s.found && t.found {
         let source = front(&script, s.len);
-        report(source, tree::open::open(source, front(&list, t.len)));
+        report(source, opening::open::open(source, front(&list, t.len)));
     }
 }

@@ -4,8 +4,8 @@ use mathlib.Core.Bool.{true, false}
 use mathlib.Core.List.{[], _∷_, map}
 use mathlib.Core.Option.{none, some}
 use lib.Dec.{T}
-use Rattle.text.specs.White.{mem, whites, isWhite}
-use Rattle.text.specs.Utf8.{table, allIn, lenBy, charLen}
+use Rattle.unicode.specs.White.{mem, whites, isWhite}
+use Rattle.unicode.specs.Utf8.{table, allIn, lenBy, charLen}
 use Rattle.text.specs.Chars.{starts, inSource, code, charsFrom, dark}
 use Rattle.text.specs.Lines.{trim, newlines}
 use Rattle.tree.specs.Records.{four}

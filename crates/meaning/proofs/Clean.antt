@@ -5,9 +5,9 @@ use mathlib.Core.Bool.{Bool, true, false, cond, not, _&&_}
 use mathlib.Core.List.{List, [], _∷_, _++_, map}
 use lib.ListN.{drop}
 use Rattle.text.specs.declared.span.Span.{Span}
-use Rattle.text.specs.declared.utf8.Formed.the-variants.{Well}
+use Rattle.unicode.specs.declared.utf8.Formed.the-variants.{Well}
 use Rattle.text.specs.Span.{textOf}
-use Rattle.text.specs.Utf8.{formed, formedFrom, table, allIn, lenBy, charLen}
+use Rattle.unicode.specs.Utf8.{formed, formedFrom, table, allIn, lenBy, charLen}
 use Rattle.text.specs.Chars.{inSource}
 use Rattle.text.specs.Lines.{trim}
 use Rattle.text.specs.Delete.{delete, deleteFrom, is-space, is-newline, Blanks, no-blank, a-blank}

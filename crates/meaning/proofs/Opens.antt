@@ -13,13 +13,13 @@ use Rattle.text.specs.Source as source-check
 use Rattle.text.specs.Chars.{inSource}
 use Rattle.tree.specs.declared.record.Record.{Record}
 use Rattle.tree.specs.declared.record.RecordNo.{RecordNo}
-use Rattle.tree.specs.declared.levels.Verdict.{Verdict}
-use Rattle.tree.specs.declared.levels.Verdict.the-variants as tree
-use Rattle.tree.specs.declared.open.Opening.{Opening}
-use Rattle.tree.specs.declared.open.Opening.the-variants as found
-use Rattle.tree.specs.Records.{records}
-use Rattle.tree.specs.Check.{startOf, endOf, Finding, fine, bad, deep, _then_, keeps, along, level, verdictAs, checked}
-use Rattle.tree.specs.Opening.{ofSource, opened}
+use Rattle.opening.specs.declared.levels.Verdict.{Verdict}
+use Rattle.opening.specs.declared.levels.Verdict.the-variants as tree
+use Rattle.opening.specs.declared.open.Opening.{Opening}
+use Rattle.opening.specs.declared.open.Opening.the-variants as found
+use Rattle.tree.specs.Records.{startOf, endOf, records}
+use Rattle.opening.specs.Check.{Finding, fine, bad, deep, _then_, keeps, along, level, verdictAs, checked}
+use Rattle.opening.specs.Opening.{ofSource, opened}
 use Rattle.meaning.specs.declared.answer.Answer.the-variants.{Done}
 use Rattle.meaning.specs.Opening.{scriptIn, answerTo, opening}
 use Rattle.meaning.specs.World as World

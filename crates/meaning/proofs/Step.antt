@@ -8,8 +8,8 @@ use mathlib.Core.Bool.{Bool, true, false, true≢false}
 use mathlib.Core.List.{List, [], _∷_, _++_, map, append-nil}
 use lib.ListN.{length, length-append, length-map}
 use borrow.Author.Tests.{ltb-false}
-use Rattle.text.specs.declared.utf8.Formed.the-variants.{Well}
-use Rattle.text.specs.Utf8.{formed}
+use Rattle.unicode.specs.declared.utf8.Formed.the-variants.{Well}
+use Rattle.unicode.specs.Utf8.{formed}
 use Rattle.tree.specs.declared.record.RecordNo.{RecordNo}
 use Rattle.meaning.specs.declared.call.Hint.{Hint}
 use Rattle.meaning.specs.declared.call.Hint.the-variants.{Line, Prefix, Suffix, Infix}

@@ -5,8 +5,8 @@ use native.Mathlib.Nat.{add-zero, add-assoc}
 use mathlib.Core.Bool.{true, false, true≢false}
 use mathlib.Core.List.{List, [], _∷_, _++_, map, append-assoc}
 use lib.ListN.{length, length-append}
-use Rattle.text.specs.declared.utf8.Formed.the-variants.{Well}
-use Rattle.text.specs.Utf8.{formed}
+use Rattle.unicode.specs.declared.utf8.Formed.the-variants.{Well}
+use Rattle.unicode.specs.Utf8.{formed}
 use Rattle.meaning.specs.declared.call.Call.{Call}
 use Rattle.meaning.specs.State.{Script, noteOf, State, fresh}
 use Rattle.meaning.specs.Pieces.{Piece, flat}

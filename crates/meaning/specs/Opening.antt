@@ -1,9 +1,9 @@
 -- What opening answers to a source and a tree in bytes, and the script that they are. Assumes nothing.
 use Prim.Native.Nat.{ℕ}
 use mathlib.Core.List.{List}
-use Rattle.tree.specs.declared.open.Opening.{Opening}
-use Rattle.tree.specs.declared.open.Opening.the-variants as found
-use Rattle.tree.specs.Opening.{opened}
+use Rattle.opening.specs.declared.open.Opening.{Opening}
+use Rattle.opening.specs.declared.open.Opening.the-variants as found
+use Rattle.opening.specs.Opening.{opened}
 use Rattle.tree.specs.Records.{records}
 use Rattle.meaning.specs.declared.answer.Refusal.the-variants.{SourceLong, SourceIll, TreeBad, TreeDeep}
 use Rattle.meaning.specs.declared.answer.Answer.{Answer}

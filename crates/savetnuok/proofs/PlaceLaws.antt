@@ -9,8 +9,8 @@ use lib.ListN.{length}
 use lib.Dec.{leb, ltb}
 use borrow.Author.Tests.{leb-true, leb-false, le-ltb}
 use mathlib.Core.Option.{Option, none, some}
-use Rattle.tree.specs.declared.open.Opening.{Opening}
-use Rattle.tree.specs.declared.open.Opening.the-variants as found
+use Rattle.opening.specs.declared.open.Opening.{Opening}
+use Rattle.opening.specs.declared.open.Opening.the-variants as found
 use Rattle.tree.specs.declared.record.RecordNo.{RecordNo}
 use Rattle.meaning.specs.declared.call.Call.{Call}
 use Rattle.meaning.specs.declared.call.Call.the-variants.{WriteOwned, WriteRaw, Ignore, Lit, Comments, Indent, Nl, Ws, FlushWhitespace, FlushPrefixComments, Finish}

@@ -8,15 +8,15 @@ use native.Mathlib.Omega.{arith}
 use lib.Dec.{leb, ltb, eqb, eqb·suc-zero, eqb·suc-suc}
 use lib.ListN.{length, drop, getD, drop-of-length-le}
 use lib.Seq.{drop-cons, drop-drop, getD-drop}
-use borrow.Author.Tests.{le-leb, lt-leb, leb-true, leb-false, ltb-true, lt-ltb}
+use borrow.Author.Tests.{le-leb, lt-leb, leb-true, ltb-true, lt-ltb}
 use Rattle.text.specs.declared.chars.Char.{Char}
-use Rattle.text.specs.declared.utf8.Formed.{Formed}
-use Rattle.text.specs.declared.utf8.Formed.the-variants.{Well}
-use Rattle.text.specs.Utf8.{Range, Row, cont, inRange, table, allIn, lenBy, charLen, atLead, formedFrom}
+use Rattle.unicode.specs.declared.utf8.Formed.{Formed}
+use Rattle.unicode.specs.declared.utf8.Formed.the-variants.{Well}
+use Rattle.unicode.specs.Utf8.{Range, Row, cont, inRange, table, allIn, lenBy, charLen, atLead, formedFrom}
 use Rattle.text.specs.Chars.{edgeFrom, edge, starts, code, charsFrom, stepOf, charAt}
-use Rattle.text.proofs.Bools.{and-l, and-r}
-use Rattle.text.proofs.RowLaws.{char-fits}
-use Rattle.text.proofs.WalkLaws.{plain-char}
+use Rattle.unicode.proofs.Bools.{and-l, and-r}
+use Rattle.unicode.proofs.RowLaws.{char-fits}
+use Rattle.unicode.proofs.WalkLaws.{plain-char}
 
 -- ---- the next character
 
@@ -179,10 +179,3 @@ starts-out zero [] h = refl
 starts-out (suc p) [] h = eqb·suc-zero p
 starts-out zero (b ∷ bs) h = absurd (omega arith)
 starts-out (suc p) (b ∷ bs) h = eqb·suc-suc p (length bs) ∙ starts-out p bs (omega arith)
-
-pub high : (b : ℕ) → leb 0xC0 b ≡ not (leb b 0xBF)
-high b = go (leb b 0xBF) refl
-  where
-    go : (t : Bool) → leb b 0xBF ≡ t → leb 0xC0 b ≡ not t
-    go true e = lt-leb 0xC0 b (omega (arith, leb-true b 0xBF e))
-    go false e = le-leb 0xC0 b (omega (arith, leb-false b 0xBF e))

@@ -12,11 +12,11 @@ use lib.ListN.{length, take, drop, getD, drop-of-length-le}
 use lib.Seq.{drop-cons}
 use borrow.Author.Tests.{ltb-true}
 use Rattle.text.specs.declared.chars.Char.{Char}
-use Rattle.text.specs.White.{mem, whites, isWhite}
-use Rattle.text.specs.Utf8.{charLen, allPlain}
+use Rattle.unicode.specs.White.{mem, whites, isWhite}
+use Rattle.unicode.specs.Utf8.{charLen, allPlain}
 use Rattle.text.specs.Chars.{charsFrom, chars, charAt, dark, counted}
 use Rattle.text.specs.Walk.{PlainBlock, Tallied}
-use Rattle.text.proofs.Bools.{and-l, and-r, below-at}
+use Rattle.unicode.proofs.Bools.{and-l, and-r, below-at}
 use Rattle.text.proofs.CharLaws.{step-fits, step-pos, chars-next, chars-none, char-plain}
 
 pub at-most-one : (w : Bool) → boolByte w ≤ 1

@@ -8,14 +8,14 @@ use native.Mathlib.Omega.{arith}
 use lib.Dec.{ltb}
 use lib.ListN.{length, getD, replicate, List·getD-append}
 use borrow.Author.Tests.{ltb-false}
-use Rattle.text.specs.declared.utf8.Formed.the-variants.{Well}
-use Rattle.text.specs.White.{mem, whites, isWhite}
-use Rattle.text.specs.Utf8.{cont, inRange, charLen, formedFrom, formed}
+use Rattle.unicode.specs.declared.utf8.Formed.the-variants.{Well}
+use Rattle.unicode.specs.White.{mem, whites, isWhite}
+use Rattle.unicode.specs.Utf8.{cont, inRange, charLen, formedFrom, formed}
 use Rattle.text.specs.Chars.{code}
 use Rattle.text.specs.Lines.{trim}
 use Rattle.text.specs.Delete.{onto, darkAt, deleteFrom, delete, Blank, is-space, is-tab, is-return, is-newline, Blanks, no-blank, a-blank}
-use Rattle.text.proofs.RowLaws.{char-le, char-append}
-use Rattle.text.proofs.WalkLaws.{plain-char}
+use Rattle.unicode.proofs.RowLaws.{char-le, char-append}
+use Rattle.unicode.proofs.WalkLaws.{plain-char}
 use Rattle.text.proofs.CharLaws.{well-lead}
 use Rattle.text.proofs.FormedLaws.{behind-le, formed-front}
 use Rattle.text.proofs.LineLaws.{trim-ends}

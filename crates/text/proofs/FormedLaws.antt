@@ -5,12 +5,12 @@ use mathlib.Core.List.{List, [], _∷_, _++_}
 use Prim.Native.Nat.{ℕ, zero, suc, pred, _+_, _-_, _≤_, zero-le, suc-le-suc}
 use native.Mathlib.Nat.{le-of-suc-le-suc, not-suc-le-zero, sub-zero, suc-sub-suc}
 use lib.ListN.{length, take, drop}
-use Rattle.text.specs.declared.utf8.Formed.{Formed}
-use Rattle.text.specs.declared.utf8.Formed.the-variants.{Well}
-use Rattle.text.specs.Utf8.{cont, inRange, charLen, atLead, formedFrom, formed}
+use Rattle.unicode.specs.declared.utf8.Formed.{Formed}
+use Rattle.unicode.specs.declared.utf8.Formed.the-variants.{Well}
+use Rattle.unicode.specs.Utf8.{cont, inRange, charLen, atLead, formedFrom, formed}
 use Rattle.text.specs.Span.{between}
 use Rattle.text.specs.Chars.{edgeFrom, starts}
-use Rattle.text.proofs.RowLaws.{char-le, char-append, char-take}
+use Rattle.unicode.proofs.RowLaws.{char-le, char-append, char-take}
 use Rattle.text.proofs.CharLaws.{well-lead, starts-edge}
 
 -- a sequence ends within the list that it begins

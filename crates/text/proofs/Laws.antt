@@ -10,16 +10,16 @@ use lib.Dec.{leb, ltb}
 use lib.ListN.{length, replicate, length-take, length-drop}
 use borrow.Author.Tests.{leb-true, le-leb, ltb-true, ltb-false, lt-ltb, le-ltb}
 use Rattle.text.specs.declared.span.Span.{Span}
-use Rattle.text.specs.declared.utf8.Formed.{Formed}
-use Rattle.text.specs.declared.utf8.Formed.the-variants.{Well, Ill}
+use Rattle.unicode.specs.declared.utf8.Formed.{Formed}
+use Rattle.unicode.specs.declared.utf8.Formed.the-variants.{Well, Ill}
 use Rattle.text.specs.declared.source.Checked.the-variants as source
 use Rattle.text.specs.Span.{textOf, joined}
-use Rattle.text.specs.Utf8.{formed}
+use Rattle.unicode.specs.Utf8.{formed}
 use Rattle.text.specs.Source.{ofFormed, checked}
 use Rattle.text.specs.Chars.{edge, starts, inSource, chars, dark, counted}
 use Rattle.text.specs.Lines.{trim, newlines}
 use Rattle.text.specs.Delete.{delete, Blank, Blanks}
-use Rattle.text.proofs.Bools.{and-l, and-r, le-or-lt}
+use Rattle.unicode.proofs.Bools.{and-l, and-r, le-or-lt}
 use Rattle.text.proofs.CharLaws as chars-laws
 use Rattle.text.proofs.LineLaws as lines-laws
 use Rattle.text.proofs.FormedLaws as formed-laws

@@ -6,8 +6,8 @@ use lib.ListN.{length, getD}
 use lib.Dec.{leb, ltb}
 use Rattle.text.specs.declared.span.Span.{Span}
 use Rattle.text.specs.declared.chars.Char.{Char}
-use Rattle.text.specs.Utf8.{cont, inRange, charLen}
-use Rattle.text.specs.White.{isWhite}
+use Rattle.unicode.specs.Utf8.{cont, inRange, charLen}
+use Rattle.unicode.specs.White.{isWhite}
 
 -- ---- boundaries
 

@@ -2,9 +2,9 @@
 use Prim.Native.Nat.{ℕ, zero, suc, pred}
 use mathlib.Core.Bool.{Bool, true, false, not}
 use mathlib.Core.List.{List, [], _∷_}
-use Rattle.text.specs.Utf8.{charLen}
+use Rattle.unicode.specs.Utf8.{charLen}
 use Rattle.text.specs.Chars.{code}
-use Rattle.text.specs.White.{isWhite}
+use Rattle.unicode.specs.White.{isWhite}
 
 abbrev pub onto : Bool → ℕ → List ℕ → List ℕ
 onto true b bs = b ∷ bs

@@ -4,11 +4,11 @@ use mathlib.Core.Bool.{cond}
 use mathlib.Core.List.{List}
 use lib.ListN.{length}
 use lib.Dec.{ltb}
-use Rattle.text.specs.declared.utf8.Formed.{Formed}
-use Rattle.text.specs.declared.utf8.Formed.the-variants as formed
+use Rattle.unicode.specs.declared.utf8.Formed.{Formed}
+use Rattle.unicode.specs.declared.utf8.Formed.the-variants as formed
 use Rattle.text.specs.declared.source.Checked.{Checked}
 use Rattle.text.specs.declared.source.Checked.the-variants.{Good, Long, Ill}
-use Rattle.text.specs.Utf8 as utf8
+use Rattle.unicode.specs.Utf8 as utf8
 
 abbrev pub ofFormed : Formed → Checked
 ofFormed formed.Well = Good

@@ -1,7 +1,7 @@
 // Characters of a source: their boundaries, and their code points.
 use crate::span::BytePos;
 use crate::span::Span;
-use crate::utf8::char_len;
+use unicode::utf8::char_len;
 ghost use mathlib.Core.Path.{_≡_};
 ghost use Prim.Native.Nat.{_≤_, _<_, _+_};
 ghost use lib.ListN.{length, drop};

@@ -1,13 +1,13 @@
 // How many characters of a text are outside White_Space: runs of plain bytes by blocks, every other character by itself.
 use crate::chars::char_at;
-use crate::utf8::plain;
-use crate::white::is_white;
+use unicode::utf8::plain;
+use unicode::white::is_white;
 ghost use mathlib.Core.Path.{_≡_};
 ghost use mathlib.Core.Bool.{true};
 ghost use Prim.Native.Nat.{_≤_, _<_};
 ghost use lib.ListN.{length};
-ghost use Rattle.text.specs.White.{isWhite};
-ghost use Rattle.text.specs.Utf8.{allPlain};
+ghost use Rattle.unicode.specs.White.{isWhite};
+ghost use Rattle.unicode.specs.Utf8.{allPlain};
 ghost use Rattle.text.specs.Chars.{dark, counted};
 ghost use Rattle.text.specs.Walk.{PlainBlock, Tallied};
 

@@ -1,6 +1,6 @@
 // What opening finds of a source: refusals 1 and 2, in that order.
 use crate::span::BytePos;
-use crate::utf8::Formed;
+use unicode::utf8::Formed;
 ghost use mathlib.Core.Path.{_≡_};
 ghost use Rattle.text.specs.Source.{checked};
 
@@ -16,7 +16,7 @@ pub fn check(s: &[u8]) -> Checked
     if 65536 < s.len() {
         return Checked::Long;
     }
-    let f = crate::utf8::check(s);
+    let f = unicode::utf8::check(s);
     match f {
         Formed::Well => Checked::Good,
         Formed::Ill(at) => Checked::Ill(BytePos(at as u32)),

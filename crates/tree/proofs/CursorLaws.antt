@@ -20,8 +20,8 @@ use Rattle.tree.specs.declared.cursor.Taken.{Taken}
 use Rattle.tree.specs.Records.{cutRecord}
 use Rattle.tree.specs.Table.{nodeOf}
 use Rattle.tree.specs.Cursor.{foundOf, siblings, shown, passes, kept, behind, cursorOf, childrenOf, headOf, peekOf, firstOf, takenAs, isNone, eofOf}
-use Rattle.tree.proofs.Bools.{le-or-lt}
-use Rattle.tree.proofs.LevelLaws.{drop-take}
+use Rattle.unicode.proofs.Bools.{le-or-lt}
+use Rattle.tree.proofs.RecordLaws.{drop-take}
 
 -- ---- where a node's records lie
 

@@ -1,12 +1,6 @@
-mod Bools
-mod RecordLaws
-mod LevelLaws
-mod WalkLaws
-mod GoodLaws
-mod OpenLaws
+pub mod RecordLaws
 mod TableLaws
-mod CursorLaws
-mod NodeLaws
-mod PeekLaws
+pub mod CursorLaws
+pub mod PeekLaws
 pub mod Laws
 mod Cases

@@ -1,23 +1,20 @@
 -- What a cursor finds: the list that it shows, and the list that it keeps, from one record to the next. Assumes nothing.
-use mathlib.Core.Path.{_≡_, refl, sym, ap, _∙_, subst}
+use mathlib.Core.Path.{_≡_, refl, sym, ap, _∙_}
 use mathlib.Core.Logic.{⊎-elim}
 use mathlib.Core.Bool.{Bool, true, false, cond}
 use mathlib.Core.List.{List, [], _∷_}
-use Prim.Native.Nat.{ℕ, zero, suc, _+_, _-_, _≤_, _<_}
+use Prim.Native.Nat.{ℕ, zero, suc, _-_, _≤_, _<_}
 use native.Mathlib.Omega.{arith}
 use lib.ListN.{length}
 use Rattle.tree.specs.declared.record.RecordNo.{RecordNo}
 use Rattle.tree.specs.declared.record.Record.{Record}
 use Rattle.tree.specs.declared.cursor.Cursor.{Cursor}
-use Rattle.tree.specs.declared.cursor.Found.{Found}
 use Rattle.tree.specs.declared.cursor.Found.the-variants.{At, None}
-use Rattle.tree.specs.Check.{endOf}
 use Rattle.tree.specs.Table.{nodeOf}
 use Rattle.tree.specs.Cursor.{shown, passes, kept, behind, cursorOf, headOf, firstOf, peekOf}
-use Rattle.tree.specs.Nodes.{LevelAt, StepAt, FirstAt, PeekAt}
-use Rattle.tree.proofs.Bools.{le-or-lt}
+use Rattle.tree.specs.Nodes.{FirstAt, PeekAt}
+use Rattle.unicode.proofs.Bools.{le-or-lt}
 use Rattle.tree.proofs.CursorLaws.{behind-le, shown-past, shown-out, shown-cons}
-use Rattle.tree.proofs.NodeLaws.{first-step, step-on}
 
 pub head-none : (ks : List ℕ) → headOf ks ≡ None → ks ≡ []
 head-none [] e = refl
@@ -76,7 +73,7 @@ module _ (rs : List Record) (end : ℕ) where
         (λ h. ⊎-elim (λ l. none-at (ap (kept rs) (shown-out rs (cursorOf at end) l)) e) (λ l. turn at h l e (turns n (behind rs at) (omega (arith, behind-le rs at .1 l)))) (le-or-lt (length rs) at))
         (le-or-lt end at)
 
-    peeked : (at : ℕ) → peekOf rs (cursorOf at end) ≡ At k → P at
+    pub peeked : (at : ℕ) → peekOf rs (cursorOf at end) ≡ At k → P at
     peeked at e = turns (end - at) at (omega arith) e
 
 pub peek-at : (rs : List Record) (c : Cursor) {k : RecordNo} → peekOf rs c ≡ At k → PeekAt rs c (k .0)
@@ -87,22 +84,3 @@ peek-at rs c {k} e = peeked rs (c .end .0) (λ at. PeekAt rs (cursorOf at (c .en
 
     passed : (at : ℕ) → at < c .end .0 → at < length rs → passes (nodeOf rs at) ≡ true → PeekAt rs (cursorOf (behind rs at) (c .end .0)) (k .0) → PeekAt rs (cursorOf at (c .end .0)) (k .0)
     passed at h l p r = record { from = omega (arith, r .from, behind-le rs at .1 l); before = r .before; here = r .here; stays = r .stays; list = (rw p at (kept-cons rs (c .end .0) at h l)) ∙ r .list }
-
--- ---- over a good level
-
-pub first-good : {src : List ℕ} {rs : List Record} {d lo hi : ℕ} {c : Cursor} {k : RecordNo} → LevelAt src rs d lo hi c → firstOf rs c ≡ At k → StepAt src rs d lo hi c (k .0)
-first-good {src} {rs} {d} {lo} {hi} {c} {k} v e =
-    let f = first-at rs c e in
-    subst (λ (k : ℕ). StepAt src rs d lo hi c k) (f .place) (first-step v (omega (arith, f)))
-
-pub peek-good : {src : List ℕ} {rs : List Record} {d lo hi : ℕ} {c : Cursor} {k : RecordNo} → LevelAt src rs d lo hi c → peekOf rs c ≡ At k → StepAt src rs d lo hi c (k .0)
-peek-good {src} {rs} {d} {lo} {hi} {c} {k} v e = peeked rs (c .end .0) Steps k found passed (c .at .0) e lo v
-  where
-    Steps : ℕ → Type 0
-    Steps at = (lo : ℕ) → LevelAt src rs d lo hi (cursorOf at (c .end .0)) → StepAt src rs d lo hi (cursorOf at (c .end .0)) (k .0)
-
-    found : (at : ℕ) → at < c .end .0 → at < length rs → passes (nodeOf rs at) ≡ false → at ≡ k .0 → Steps at
-    found at h l p q lo v = subst (λ (j : ℕ). StepAt src rs d lo hi (cursorOf at (c .end .0)) j) q (first-step v h)
-
-    passed : (at : ℕ) → at < c .end .0 → at < length rs → passes (nodeOf rs at) ≡ true → Steps (behind rs at) → Steps at
-    passed at h l p r lo v = let s = first-step v h in step-on s (r (endOf (nodeOf rs at)) (s .rest))

@@ -3,12 +3,12 @@ use mathlib.Core.Path.{_≡_, refl, sym, ap, _∙_}
 use mathlib.Core.Bool.{Bool, true, false, cond, false≢true}
 use mathlib.Core.List.{List, [], _∷_}
 use Prim.Native.Nat.{ℕ, zero, suc, _+_, _-_, _*_, _≤_, _<_, zero-le, suc-le-suc}
-use native.Mathlib.Nat.{add-zero}
+use native.Mathlib.Nat.{add-zero, sub-zero, zero-sub, suc-sub-suc}
 use native.Mathlib.Numerals.{add-one}
 use native.Mathlib.Omega.{arith}
 use lib.Dec.{leb, ltb}
-use lib.ListN.{length, drop, getD, length-drop, drop-of-length-le}
-use lib.Seq.{drop-cons, drop-drop, getD-drop}
+use lib.ListN.{length, take, drop, getD, length-drop, drop-of-length-le}
+use lib.Seq.{take-nil, drop-cons, drop-drop, getD-drop}
 use borrow.Author.Tests.{lt-ltb, le-ltb, leb-true, leb-false, ltb-false}
 use Rattle.tree.specs.declared.record.Record.{Record}
 use Rattle.tree.specs.Records.{four, bodyOf, spanOf, cutRecord, recordOf, recordAt, recordsFrom, records}
@@ -76,6 +76,12 @@ module _ (s : List ℕ) (at : ℕ) (h : at < length s) where
       go false q w = omega (arith, ltb-false (length (drop (at + 1) s)) (bodyOf (getD s at 0)) q, length-drop (at + 1) s)
 
 -- ---- the list of records
+
+pub drop-take : {A : Type 0} (k m : ℕ) (l : List A) → drop k (take m l) ≡ take (m - k) (drop k l)
+drop-take zero m l = rw sub-zero
+drop-take (suc k) zero l = rw zero-sub
+drop-take (suc k) (suc m) [] = sym (take-nil (suc m - suc k))
+drop-take (suc k) (suc m) (x ∷ l) = rw suc-sub-suc (drop-take k m l)
 
 records-skip : (k : ℕ) (s : List ℕ) → recordsFrom k s ≡ records (drop k s)
 unfolding recordsFrom

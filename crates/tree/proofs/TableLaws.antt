@@ -10,8 +10,7 @@ use lib.ListN.{length, take, drop, getD, set, length-append, length-take, take-a
 use lib.Seq.{sets-eq, take-all, take-at, drop-at, length-take-le, take-nil, drop-drop, getD-drop}
 use borrow.Author.Tests.{lt-ltb, le-ltb, ltb-true}
 use Rattle.tree.specs.declared.record.Record.{Record}
-use Rattle.tree.specs.Records.{four, bodyOf, spanOf, cutRecord, recordOf, recordAt, recordsFrom, records}
-use Rattle.tree.specs.Check.{startOf, endOf}
+use Rattle.tree.specs.Records.{startOf, endOf, four, bodyOf, spanOf, cutRecord, recordOf, recordAt, recordsFrom, records}
 use Rattle.tree.specs.Table.{kindWord, wordsOf, roomOf, fitting, readFrom, tableOf, treeOf, Decoded, nodeOf}
 use Rattle.tree.proofs.RecordLaws.{body-le, records-none, split}
 

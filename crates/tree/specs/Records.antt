@@ -7,6 +7,12 @@ use lib.Dec.{ltb}
 use Rattle.text.specs.declared.span.Span.{Span}
 use Rattle.tree.specs.declared.record.Record.{Record}
 
+abbrev pub startOf : Record → ℕ
+startOf r = r .span .start .0
+
+abbrev pub endOf : Record → ℕ
+endOf r = r .span .end .0
+
 -- four bytes, low byte first
 unfoldable pub four : List ℕ → ℕ
 four s = getD s 0 0 + getD s 1 0 * 0x100 + getD s 2 0 * 0x10000 + getD s 3 0 * 0x1000000

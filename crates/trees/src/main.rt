@@ -1,5 +1,5 @@
 // Recorded trees, good and damaged: what opening answers is held against what the oracle recorded. oracle/README.md has the file's form.
-use tree::open::Opening;
+use opening::open::Opening;
 
 // How many cases agreed, of each answer, and how many did not.
 struct Tally {
@@ -68,7 +68,10 @@ fn case(file: &[u8], at: usize, source: &mut [u8], list: &mut [u8], t: Tally) ->
     let s = packed::unpack(file, at, source);
     let l = packed::unpack(file, s.at, list);
     let recorded = packed::long(file, l.at);
-    let found = answer(tree::open::open(packed::front(source, s.len), packed::front(list, l.len)));
+    let found = answer(opening::open::open(
+        packed::front(source, s.len),
+        packed::front(list, l.len),
+    ));
     Next {
         tally: counted(t, found, recorded),
         at: packed::plus(l.at, 8),

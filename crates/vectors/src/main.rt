@@ -2,7 +2,7 @@
 // place over all inputs of one, two and three bytes and the edges of those of four, against a naive decoder.
 mod naive;
 
-use text::utf8::Formed;
+use unicode::utf8::Formed;
 
 // White_Space, Unicode's property, code point by code point.
 const WHITES: [u32; 25] = [
@@ -70,7 +70,7 @@ fn whites() -> Tally {
         differ: 0,
     };
     for c in 0..0x110000 {
-        let white = text::white::is_white(c);
+        let white = unicode::white::is_white(c);
         t = Tally {
             run: more(t.run, true),
             yes: more(t.yes, white),
@@ -98,7 +98,7 @@ fn is_well(f: Formed) -> bool {
 }
 
 fn with(t: Tally, s: &[u8]) -> Tally {
-    let found = text::utf8::check(s);
+    let found = unicode::utf8::check(s);
     Tally {
         run: more(t.run, true),
         yes: more(t.yes, is_well(found)),

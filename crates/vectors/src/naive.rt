@@ -1,5 +1,5 @@
 // A decoder that reads Unicode's table 3-7 row by row and byte by byte.
-use text::utf8::Formed;
+use unicode::utf8::Formed;
 
 // A row: first and last of what the first, second, third and fourth byte may be; 1 and 0 where the row has no such byte.
 const ROWS: [u8; 72] = [

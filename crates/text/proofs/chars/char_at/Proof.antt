@@ -1,6 +1,6 @@
 -- `text::chars::char_at` meets its contract. Assumes nothing.
 use Rattle.text.proofs.CharLaws.{char-ill, char-plain, char-wide}
-use Rattle.text.proofs.RowLaws.{char-fits}
+use Rattle.unicode.proofs.RowLaws.{char-fits}
 use borrow.Author.Needs.{needs}
 use native.Mathlib.Omega.{arith}
 use Rattle.text.proofs.chars.char_at.Statement.{statement}

@@ -1,5 +1,5 @@
 -- `text::source::check` meets its contract: an ill-formed place lies inside the source, so it fits a place. Assumes nothing.
-use Rattle.text.proofs.WellFormed.{ill-first}
+use Rattle.unicode.proofs.WellFormed.{ill-first}
 use Rattle.text.specs.Source.{checked, ofFormed}
 use borrow.Author.Tests.{le-ltb, lt-ltb}
 use mathlib.Core.Path.{_∙_, ap, sym}

@@ -1,0 +1,5 @@
+pub mod Check
+pub mod Good
+pub mod Walk
+pub mod Opening
+pub mod Nodes

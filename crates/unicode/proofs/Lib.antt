@@ -1,0 +1,5 @@
+pub mod Bools
+mod RangeLaws
+pub mod RowLaws
+pub mod WalkLaws
+pub mod WellFormed

@@ -1,0 +1,3 @@
+pub mod White
+pub mod Utf8
+pub mod Walk
