@@ -20,7 +20,7 @@ record-of : ℕ → ℕ → Record
 record-of kind below = record { whole = true; kind = kind; span = spanOf 0 0; below = below }
 
 -- a node with two attributes, each of them one token and the second behind a comment, and a token behind them; 82 is an attribute, 83 an inner one
-tree : ℕ → List Record
+pub tree : ℕ → List Record
 tree attr =
     record-of 0x80 7
     ∷ record-of attr 1
@@ -32,17 +32,17 @@ tree attr =
     ∷ record-of 0x03 0
     ∷ []
 
-records : ℕ → Stream
+pub records : ℕ → Stream
 records attr = recordsOf (tree attr) (no 0)
 
 -- each is written whole, with `nl(1)` behind it
-both : List Call
+pub both : List Call
 both = WriteOwned (no 1) ∷ Nl 1 ∷ WriteOwned (no 5) ∷ Nl 1 ∷ []
 
 -- the calls that a step makes at s, and what it leaves there
-record Does (f : Stream → Flow Stream) (s : Stream) (cs : List Call) (left : List ℕ) : Type 0 where
-  calls : callsOf (f s .plan) ≡ cs
-  rest : f s .rest ≡ stream (no 0) left
+pub record Does (f : Stream → Flow Stream) (s : Stream) (cs : List Call) (left : List ℕ) : Type 0 where
+  pub calls : callsOf (f s .plan) ≡ cs
+  pub rest : f s .rest ≡ stream (no 0) left
 
 pub attributes-written : Does (attributes (tree 0x82)) (records 0x82) both (7 ∷ [])
 unfolding record-of tree records both nodeOf siblings shown passes kept behind factsOf byteOf takeIf _▸_ plain onFound pump turns loop attributes
