@@ -263,8 +263,8 @@ uint64_t savetnuok_call(const uint8_t *source, size_t source_len, const uint8_t 
  * former text, and the state is the engine after them; no byte of `out` below the former length or beyond the new one
  * is touched. Refused, no byte of `state` and no byte of `out` below the former length changes, and every byte of `out`
  * from the former length to its end is 0, whatever refused the run: nothing of a layout that failed can be read. One
- * case is apart: where state_len, a flag or out_len is wrong (the first 5 below) the state tells no length, and no byte
- * of `out` is touched, whichever refusal is answered.
+ * case is apart: where state_len, a flag or out_len is wrong (the first 5 below) no word of the state is trusted, and no
+ * byte of `out` is touched, whichever refusal is answered.
  *
  * Refusals, in the order in which they are asked:
  *     1, 2, 3, 7   as at opening

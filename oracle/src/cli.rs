@@ -31,6 +31,7 @@ const HELP: &str = "oracle COMMAND [--cap N]
   record trees FILE            recorded trees
   record calls FILE            recorded histories; `--trim white-space`: as request (i) has it
   record runs FILE             recorded histories with layout runs; the same option
+  record planted FILE          histories of which one number or byte each is wrong
   replay calls|runs FILE       a recorded file's steps once more, against what it holds
   bench SRC TREE [ROUNDS]      speed of the whole layout
   cover SEED COUNT             lines of format.rs reached (build with --features trace)
@@ -163,6 +164,7 @@ fn on_recorded(args: &[&str], trim: Trim) -> bool {
         ["record", "trees", file] => write(file, record::trees()),
         ["record", "calls", file] => write(file, record::calls(trim)),
         ["record", "runs", file] => write(file, record::runs(trim)),
+        ["record", "planted", file] => write(file, record::planted()),
         ["replay", "calls", file] => exit_on(record::replay(&read(file), false)),
         ["replay", "runs", file] => exit_on(record::replay(&read(file), true)),
         _ => return false,

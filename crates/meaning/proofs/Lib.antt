@@ -1,4 +1,5 @@
 pub mod Cases
+pub mod LentCases
 pub mod Numbers
 pub mod Laws
 pub mod Sentences

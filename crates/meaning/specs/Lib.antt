@@ -16,3 +16,4 @@ pub mod History
 pub mod Demand3
 pub mod AtLeast
 pub mod Cases
+pub mod LentCases

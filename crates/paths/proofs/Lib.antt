@@ -1,2 +1,3 @@
 pub mod PathLaws
 pub mod ModifierLaws
+pub mod Cases

@@ -1,10 +1,15 @@
 // What a call or a run answers and leaves, held against what was recorded of it: eight words of state, four for each waiting comment, the output.
+use crate::tally;
+use crate::tally::Counts;
+use crate::tally::add;
+use crate::tally::add_if;
 use entry::state::State;
 use meaning::answer;
 use meaning::answer::Answer;
+ghost use Prim.Native.Nat.{_≤_};
 
 // The answer as recorded: 0, or the refusal's number times 2^32 and its place.
-pub fn same_answer(a: Answer, recorded: u64) -> bool {
+fn same_answer(a: Answer, recorded: u64) -> bool {
     let number = answer::number(a) as u64;
     let place = answer::place(a) as u64;
     recorded / 0x1_0000_0000 == number && recorded % 0x1_0000_0000 == place
@@ -57,30 +62,67 @@ fn blank(file: &[u8], at: usize) -> u8 {
     if word(file, at, 7) == 0 { 0xEE } else { 0 }
 }
 
-// The output as recorded, and nothing behind it.
-fn same_buffer(file: &[u8], at: usize, out: &[u8]) -> bool {
+// The output as recorded.
+fn same_output(file: &[u8], at: usize, out: &[u8]) -> bool {
     let from = output_at(file, at);
     let len = word(file, at, 0);
-    let rest = blank(file, at);
     for i in 0..out.len() {
-        let recorded = if i < len {
-            packed::byte(file, packed::plus(from, i))
-        } else {
-            rest
-        };
-        if out[i] != recorded {
-            return false;
+        if i < len {
+            if out[i] != packed::byte(file, packed::plus(from, i)) {
+                return false;
+            }
         }
     }
     true
 }
 
-pub fn same_left(file: &[u8], at: usize, s: State, out: &[u8]) -> bool {
+// Nothing but the blank behind it.
+fn same_behind(file: &[u8], at: usize, out: &[u8]) -> bool {
+    let len = word(file, at, 0);
+    let rest = blank(file, at);
+    for i in 0..out.len() {
+        if len <= i {
+            if out[i] != rest {
+                return false;
+            }
+        }
+    }
+    true
+}
+
+fn least(a: usize, b: usize) -> usize
+    ensures { λ r. ⌜ r ≤ b ⌝ }
+{
+    if a <= b { a } else { b }
+}
+
+// How much of each there is.
+fn count_compared(file: &[u8], at: usize, cap: usize, counts: &mut Counts) {
+    let len = least(word(file, at, 0), cap);
+    add(counts, tally::ANSWERS, 1);
+    add(counts, tally::STATES, 1);
+    add(counts, tally::COMMENTS, word(file, at, 6));
+    add(counts, tally::OUTPUT_BYTES, len);
+    add(counts, tally::BYTES_BEHIND, cap - len);
+}
+
+// Answer, state, queue, output and the bytes behind it, each by itself; `at` is where the answer stands.
+pub fn held(file: &[u8], at: usize, given: Answer, s: State, out: &[u8], counts: &mut Counts) {
+    let recorded = packed::long(file, at);
+    let left = packed::plus(at, 8);
     let queue = s.queue;
-    same_words(file, at, s) && same_queue(file, at, &queue) && same_buffer(file, at, out)
+    count_compared(file, left, out.len(), counts);
+    add_if(counts, tally::WENT, recorded == 0);
+    add_if(counts, tally::REFUSED, recorded != 0);
+    add_if(counts, tally::ANSWER, !same_answer(given, recorded));
+    add_if(counts, tally::STATE, !same_words(file, left, s));
+    add_if(counts, tally::QUEUE, !same_queue(file, left, &queue));
+    add_if(counts, tally::OUTPUT, !same_output(file, left, out));
+    add_if(counts, tally::BEHIND, !same_behind(file, left, out));
 }
 
 // Where the next step stands.
 pub fn behind(file: &[u8], at: usize) -> usize {
-    packed::plus(output_at(file, at), word(file, at, 0))
+    let left = packed::plus(at, 8);
+    packed::plus(output_at(file, left), word(file, left, 0))
 }

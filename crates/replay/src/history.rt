@@ -1,5 +1,8 @@
 // One history: a fresh engine over its source and tree, and its steps one by one, calls and, in the file of runs, layout runs.
 use crate::compare;
+use crate::tally;
+use crate::tally::Counts;
+use crate::tally::add;
 use entry::engine;
 use entry::state::State;
 use entry::state::Step;
@@ -7,52 +10,10 @@ use format::runs;
 use tree::record::RecordNo;
 ghost use Prim.Native.Nat.{_≤_};
 
-// Histories, steps that agreed and went, steps that agreed and were refused, and those that differed.
-pub struct Tally {
-    pub histories: u64,
-    pub went: u64,
-    pub refused: u64,
-    pub differ: u64,
-}
-
-// Where the file goes on, and the tally so far.
-pub struct Ended {
-    pub at: usize,
-    pub tally: Tally,
-}
-
-// The same within a history, with the engine as last left.
+// Where the file goes on within a history, with the engine as last left.
 struct Next {
     at: usize,
     state: State,
-    tally: Tally,
-}
-
-pub fn none() -> Tally {
-    Tally {
-        histories: 0,
-        went: 0,
-        refused: 0,
-        differ: 0,
-    }
-}
-
-fn more(n: u64, by: bool) -> u64 {
-    if by {
-        if n < 0xFFFF_FFFF {
-            return n + 1;
-        }
-    }
-    n
-}
-
-fn counted(t: Tally, same: bool, answer: u64) -> Tally {
-    Tally {
-        histories: t.histories,
-        went: more(t.went, same && answer == 0),
-        refused: more(t.refused, same && answer != 0),
-        differ: more(t.differ, !same),
-    }
 }
 
 // The node that a layout run names.
@@ -76,22 +37,27 @@ fn step(
 }
 
 // One step: its bytes, what is answered, and what is left.
-fn one(file: &[u8], source: &[u8], tree: &[u8], out: &mut [u8], n: Next, with_runs: bool) -> Next {
+fn one(
+    file: &[u8],
+    source: &[u8],
+    tree: &[u8],
+    out: &mut [u8],
+    n: Next,
+    with_runs: bool,
+    counts: &mut Counts,
+) -> Next {
     let len = packed::word(file, n.at);
     let from = packed::plus(n.at, 4);
     let at = packed::plus(from, len);
-    let answer = packed::long(file, at);
     let state = n.state;
     let bytes = packed::slice(file, from, len);
     let step = step(source, tree, out, state, bytes, with_runs);
     let given = step.answer;
-    let left = packed::plus(at, 8);
     let state = step.state;
-    let same = compare::same_answer(given, answer) && compare::same_left(file, left, state, out);
+    compare::held(file, at, given, state, out, counts);
     Next {
-        at: compare::behind(file, left),
+        at: compare::behind(file, at),
         state,
-        tally: counted(n.tally, same, answer),
     }
 }
 
@@ -103,12 +69,13 @@ fn steps(
     first: Next,
     count: usize,
     with_runs: bool,
-) -> Next {
+    counts: &mut Counts,
+) -> usize {
     let mut n = first;
     for _ in 0..count {
-        n = one(file, source, tree, out, n, with_runs);
+        n = one(file, source, tree, out, n, with_runs, counts);
     }
-    n
+    n.at
 }
 
 // A buffer of bytes that no call writes.
@@ -142,29 +109,19 @@ fn play(
     source: &[u8],
     tree: &[u8],
     out: &mut [u8],
-    t: Tally,
     with_runs: bool,
-) -> Ended {
+    counts: &mut Counts,
+) -> usize {
     untouched(out);
     let opened = engine::open(source, tree);
     let state = opened.state;
     let first = Next {
         at: packed::plus(at, 8),
         state,
-        tally: t,
     };
     let count = packed::word(file, packed::plus(at, 4));
-    let n = steps(file, source, tree, out, first, count, with_runs);
-    let done = n.tally;
-    Ended {
-        at: n.at,
-        tally: Tally {
-            histories: more(done.histories, true),
-            went: done.went,
-            refused: done.refused,
-            differ: done.differ,
-        },
-    }
+    add(counts, tally::HISTORIES, 1);
+    steps(file, source, tree, out, first, count, with_runs, counts)
 }
 
 fn least(a: usize, b: usize) -> usize
@@ -173,14 +130,15 @@ fn least(a: usize, b: usize) -> usize
     if a <= b { a } else { b }
 }
 
+// The history at the front of the file's bytes, and where the next one stands.
 pub fn run(
     file: &[u8],
     source: &mut [u8],
     list: &mut [u8],
     out: &mut [u8],
-    t: Tally,
     with_runs: bool,
-) -> Ended {
+    counts: &mut Counts,
+) -> usize {
     let l = load(file, source, list);
     let cap = least(packed::word(file, l.at), out.len());
     play(
@@ -189,7 +147,7 @@ pub fn run(
         packed::front(source, l.source),
         packed::front(list, l.list),
         &mut out[0..cap],
-        t,
         with_runs,
+        counts,
     )
 }

@@ -2,9 +2,9 @@
 // oracle/README.md has the file's form.
 mod compare;
 mod history;
+mod tally;
 
-use history::Ended;
-use history::Tally;
+use tally::Counts;
 
 // The file's bytes from an offset on, as many as the window takes.
 fn read(fd: i32, window: &mut [u8], offset: usize) -> usize {
@@ -19,23 +19,20 @@ fn one(
     source: &mut [u8],
     list: &mut [u8],
     out: &mut [u8],
-    e: Ended,
+    at: usize,
     with_runs: bool,
-) -> Ended {
-    let n = read(fd, window, e.at);
-    let h = history::run(
+    counts: &mut Counts,
+) -> usize {
+    let n = read(fd, window, at);
+    let len = history::run(
         packed::front(window, n),
         source,
         list,
         out,
-        e.tally,
         with_runs,
+        counts,
     );
-    let tally = h.tally;
-    Ended {
-        at: packed::plus(e.at, h.at),
-        tally,
-    }
+    packed::plus(at, len)
 }
 
 fn replay(
@@ -45,26 +42,17 @@ fn replay(
     list: &mut [u8],
     out: &mut [u8],
     with_runs: bool,
-) -> Tally {
+    counts: &mut Counts,
+) {
     let n = read(fd, window, 0);
     let count = packed::word(packed::front(window, n), 0);
-    let mut e = Ended {
-        at: 4,
-        tally: history::none(),
-    };
+    let mut at: usize = 4;
     for _ in 0..count {
-        e = one(fd, window, source, list, out, e, with_runs);
+        at = one(fd, window, source, list, out, at, with_runs, counts);
     }
-    e.tally
 }
 
-fn say(n: u64, what: &[u8]) {
-    io::print_decimal(1, n);
-    io::write_all(1, what);
-}
-
-// One file, and what was found of it.
-fn replay_file(path: &[u8], steps: &[u8], with_runs: bool) {
+fn replay_file(path: &[u8], with_runs: bool, counts: &mut Counts) {
     let fd = os::open_read(path);
     if fd < 0 {
         os::fail(path);
@@ -74,15 +62,42 @@ fn replay_file(path: &[u8], steps: &[u8], with_runs: bool) {
     let mut source = [0u8; 65536];
     let mut list = [0u8; 4096];
     let mut out = [0u8; 2048];
-    let t = replay(fd, &mut window, &mut source, &mut list, &mut out, with_runs);
+    replay(
+        fd,
+        &mut window,
+        &mut source,
+        &mut list,
+        &mut out,
+        with_runs,
+        counts,
+    );
     libc::close(fd);
-    say(t.histories, b" histories: ");
-    say(t.went, steps);
-    say(t.refused, b" were refused, all as recorded; ");
-    say(t.differ, b" differ\n");
+}
+
+// One file, and what was found of it.
+fn report_file(path: &[u8], steps: &[u8], with_runs: bool) {
+    let mut counts = tally::none();
+    replay_file(path, with_runs, &mut counts);
+    tally::say(&counts, tally::HISTORIES, b" histories: ");
+    tally::say(&counts, tally::WENT, steps);
+    tally::say(&counts, tally::REFUSED, b" were refused\n  ");
+    tally::report_compared(&counts);
+}
+
+// Of each part that is compared there is a record which differs in that part alone.
+fn report_planted(path: &[u8]) {
+    let mut counts = tally::none();
+    replay_file(path, false, &mut counts);
+    tally::say(
+        &counts,
+        tally::HISTORIES,
+        b" histories with one wrong word, byte or answer each: ",
+    );
+    tally::report_differ(&counts);
 }
 
 fn main() {
-    replay_file(b"calls.bin", b" calls went, ", false);
-    replay_file(b"runs.bin", b" calls and runs went, ", true);
+    report_file(b"calls.bin", b" calls went, ", false);
+    report_file(b"runs.bin", b" calls and runs went, ", true);
+    report_planted(b"planted.bin");
 }

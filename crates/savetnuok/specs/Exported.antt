@@ -74,7 +74,7 @@ CalledOn source tree state out bytes n =
 abbrev pub layoutOf : List ℕ → ℕ → Plan
 layoutOf tree k = layout (records tree) (record { 0 = k })
 
--- a refused run zeroes the buffer from the former length on; a state without the shape has none, so nothing is touched there
+-- a refused run zeroes the buffer from the former length on; of a state without the shape no word is trusted, so nothing is touched there
 abbrev pub runResult : List ℕ → List ℕ → List ℕ → List ℕ → ℕ → Result
 runResult src tree st b k =
     cond (shaped st (length b)) (run (opening src tree) (scriptIn src tree) (world (stateIn st) b) (layoutOf tree k))

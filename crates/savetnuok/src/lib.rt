@@ -79,7 +79,7 @@ pub extern "C" fn savetnuok_call(
 }
 
 // A layout run on a node of the tree, on the lent state and buffer. Refused, it zeroes the buffer from the state's length on, unless the
-// shape is wrong: then there is no length to trust.
+// shape is wrong: then no word of the state is trusted.
 #[no_mangle]
 pub extern "C" fn savetnuok_run(
     source: &[u8],

@@ -1,3 +1,4 @@
 mod WordLaws
 mod StateLaws
 pub mod BackLaws
+pub mod StateCases

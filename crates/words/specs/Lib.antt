@@ -1,3 +1,4 @@
 pub mod Words
 pub mod StateBytes
 pub mod CodeState
+pub mod StateCases

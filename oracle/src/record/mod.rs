@@ -6,6 +6,7 @@ mod calls;
 mod histories;
 mod history;
 mod pieces;
+mod planted;
 mod rules;
 mod runs;
 mod sources;
@@ -13,6 +14,7 @@ mod trees;
 
 pub use again::replay;
 pub use calls::record as calls;
+pub use planted::record as planted;
 #[cfg(feature = "trace")]
 pub use runs::make as make_runs;
 pub use runs::record as runs;

@@ -7,10 +7,11 @@ use Rattle.replay.proofs.replay.Statement.{statement}
 use Rattle.replay.proofs.replay.Tie as tie
 
 abbrev Inv-loop : tie.InvT-loop
-Inv-loop fd window₀ source₀ list₀ out₀ with-runs n count e₀ counter₀ window source list out e counter = (counter ≤ count) × (length window ≡ length window₀) × (length source ≡ length source₀) × (length list ≡ length list₀) × (length out ≡ length out₀)
+Inv-loop fd window₀ source₀ list₀ out₀ with-runs counts₀ n count at₀ counter₀ window source list out counts at counter =
+    (counter ≤ count) × (length window ≡ length window₀) × (length source ≡ length source₀) × (length list ≡ length list₀) × (length out ≡ length out₀)
 
 abbrev μ-loop : tie.MeasureT-loop
-μ-loop fd window₀ source₀ list₀ out₀ with-runs n count e₀ counter₀ window source list out e counter = count - counter
+μ-loop fd window₀ source₀ list₀ out₀ with-runs counts₀ n count at₀ counter₀ window source list out counts at counter = count - counter
 
 pub replay-spec : {M : Type 1} → statement M
 replay-spec =
@@ -18,7 +19,6 @@ replay-spec =
     (tie.spec
     Inv-loop
     μ-loop
-    (λ c κs. search needs)
     (λ c κs. search needs)
     (λ c κs. search needs)
     (λ c κs. search needs)

@@ -11,6 +11,8 @@ mod huge;
 mod large;
 mod lent;
 mod noise;
+mod record;
+mod recorder;
 mod reference;
 mod rules;
 mod sample;
@@ -31,7 +33,8 @@ use tally::Tally;
 
 const HELP: &str = "outside [--calls N] [--seed N] [--save FOLDER] [--only GROUP:NUMBER] [--trace]
 outside faults [--calls N] [--seed N]     each fault of a stand-in must be found
-outside sample FOLDER COUNT [--seed N]    histories with their answers, as files";
+outside sample FOLDER COUNT [--seed N]    histories with their answers, as files
+outside record FOLDER                     the sessions that the gate's program `exported` replays";
 
 /// Groups of histories; of a round of histories each gets so many.
 const GROUPS: [(&str, usize); 16] = [
@@ -294,6 +297,10 @@ fn main() {
         ["faults"] => find_faults(&options),
         ["sample", folder, count] => {
             sample::write(folder.as_ref(), options.seed, number(count));
+            true
+        }
+        ["record", folder] => {
+            record::write(folder.as_ref());
             true
         }
         _ => help(),

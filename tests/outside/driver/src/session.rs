@@ -8,6 +8,7 @@ use oracle::call::Step;
 use crate::area::{Area, Side};
 use crate::exported::Library;
 use crate::lent;
+use crate::recorder::{self, Recorder};
 use crate::reference::{self, Script, Want};
 use crate::tally::Tally;
 
@@ -58,6 +59,8 @@ pub struct Session<'a> {
     pub state: Vec<u8>,
     pub out: Vec<u8>,
     pub calls: u64,
+    /// writes the session down
+    pub recorder: Option<Recorder>,
 }
 
 impl<'a> Session<'a> {
@@ -86,6 +89,7 @@ impl<'a> Session<'a> {
             state: vec![],
             out: vec![],
             calls: 0,
+            recorder: None,
         }
     }
 
@@ -93,16 +97,26 @@ impl<'a> Session<'a> {
     pub fn lend(&mut self, script: &Script) {
         self.desk.source.put(&script.source, self.sides[0]);
         self.desk.tree.put(&script.tree, self.sides[1]);
+        self.lent(recorder::SOURCE, &script.source);
+        self.lent(recorder::TREE, &script.tree);
     }
 
     pub fn lend_state(&mut self, state: Vec<u8>) {
         self.desk.state.put(&state, self.sides[2]);
+        self.lent(recorder::STATE, &state);
         self.state = state;
     }
 
     pub fn lend_out(&mut self, out: Vec<u8>) {
         self.desk.out.put(&out, self.sides[3]);
+        self.lent(recorder::OUT, &out);
         self.out = out;
+    }
+
+    fn lent(&mut self, kind: usize, bytes: &[u8]) {
+        if let Some(recorder) = &mut self.recorder {
+            recorder.lend(kind, bytes);
+        }
     }
 
     /// A buffer of so many bytes, each unlike its neighbours.
@@ -230,6 +244,7 @@ impl<'a> Session<'a> {
             self.report(&wrong, script, asked, got, want);
             return Err(Differs);
         }
+        self.write_down(asked, want);
         if let Some(state) = &want.state {
             let from = self.written_from();
             self.out[from..from + want.written.len()].copy_from_slice(&want.written);
@@ -239,6 +254,21 @@ impl<'a> Session<'a> {
             self.out.iter_mut().skip(from).for_each(|b| *b = 0);
         }
         Ok(())
+    }
+
+    fn write_down(&mut self, asked: Asked, want: &Want) {
+        let (kind, bytes) = match asked {
+            Asked::Open => (recorder::OPEN, vec![]),
+            Asked::Call(record) => (recorder::CALL, record.to_vec()),
+            Asked::Run(node) => (recorder::RUN, node.to_le_bytes().to_vec()),
+        };
+        let from = match want.state {
+            Some(_) => self.written_from(),
+            None => 0,
+        };
+        if let Some(recorder) = &mut self.recorder {
+            recorder.made(kind, &bytes, want, from, self.out.len());
+        }
     }
 
     /// Where a call writes that succeeds. An opening writes nothing.

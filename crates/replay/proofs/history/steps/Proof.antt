@@ -7,10 +7,10 @@ use Rattle.replay.proofs.history.steps.Statement.{statement}
 use Rattle.replay.proofs.history.steps.Tie as tie
 
 abbrev Inv-loop : tie.InvT-loop
-Inv-loop file source tree out₀ count with-runs n₀ counter₀ out n counter = (counter ≤ count) × (length out ≡ length out₀)
+Inv-loop file source tree out₀ count with-runs counts₀ n₀ counter₀ out counts n counter = (counter ≤ count) × (length out ≡ length out₀)
 
 abbrev μ-loop : tie.MeasureT-loop
-μ-loop file source tree out₀ count with-runs n₀ counter₀ out n counter = count - counter
+μ-loop file source tree out₀ count with-runs counts₀ n₀ counter₀ out counts n counter = count - counter
 
 pub steps-spec : {M : Type 1} → statement M
 steps-spec =

@@ -1,30 +1,29 @@
--- `replay::compare::same_buffer` is safe and ends. Assumes nothing.
+-- `replay::compare::same_output` is safe and ends. Assumes nothing.
 use Prim.Native.Nat.{_-_, _≤_}
 use lib.ListN.{length}
 use mathlib.Core.Path.{_≡_}
 use borrow.Author.Needs.{needs}
-use Rattle.replay.proofs.compare.same_buffer.Statement.{statement}
-use Rattle.replay.proofs.compare.same_buffer.Tie as tie
+use Rattle.replay.proofs.compare.same_output.Statement.{statement}
+use Rattle.replay.proofs.compare.same_output.Tie as tie
 
 abbrev Inv-loop : tie.InvT-loop
-Inv-loop file at out from len rest i₀ i-end i = (i ≤ i-end) × (i-end ≡ length out)
+Inv-loop file at out from len i₀ i-end i = (i ≤ i-end) × (i-end ≡ length out)
 
 abbrev μ-loop : tie.MeasureT-loop
-μ-loop file at out from len rest i₀ i-end i = i-end - i
+μ-loop file at out from len i₀ i-end i = i-end - i
 
-pub same-buffer-spec : {M : Type 1} → statement M
-same-buffer-spec =
+pub same-output-spec : {M : Type 1} → statement M
+same-output-spec =
     tie.close
     (tie.spec
     Inv-loop
     μ-loop
     (λ c κs. search needs)
     (λ c κs. search needs)
-    (λ c κs. search needs)
+    (λ c. search needs)
     (λ c. search needs)
     (λ c κs. search needs)
     (λ c κs. search needs)
-    (λ c. search needs)
     (λ c. search needs)
     (λ c. search needs)
     (λ c. search needs)
