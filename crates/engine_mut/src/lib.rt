@@ -5,9 +5,8 @@ use entry::state::Step;
 use meaning::answer::Answer;
 use meaning::call::Call;
 use tree::record::RecordNo;
-ghost use Rattle.entry.specs.Served.{Served, callLeft, recordLeft};
-ghost use Rattle.format.specs.Rules.{laidOut};
-ghost use Rattle.engine_mut.specs.Stored.{Stored};
+ghost use Rattle.entry.specs.Served.{Served, callLeft};
+ghost use Rattle.engine_mut.specs.Stored.{Changed, called, recorded, laid};
 
 pub struct Engine {
     pub state: State,
@@ -15,7 +14,7 @@ pub struct Engine {
 
 // One call.
 pub fn call(e: &mut Engine, source: &[u8], tree: &[u8], out: &mut [u8], c: Call) -> Answer
-    ensures { λ a. ⌜ Stored (now (e .entry)) a (now (e .exit)) (now (out .exit)) (callLeft (now (source .entry)) (now (tree .entry)) (now (e .entry) .state) (now (out .entry)) c) ⌝ }
+    ensures { λ a. ⌜ Changed e out a (called e source tree out c) ⌝ }
 {
     let z = entry::engine::call(source, tree, out, e.state, c);
     e.state = z.state;
@@ -24,7 +23,7 @@ pub fn call(e: &mut Engine, source: &[u8], tree: &[u8], out: &mut [u8], c: Call)
 
 // One call record, in bytes.
 pub fn record(e: &mut Engine, source: &[u8], tree: &[u8], out: &mut [u8], bytes: &[u8]) -> Answer
-    ensures { λ a. ⌜ Stored (now (e .entry)) a (now (e .exit)) (now (out .exit)) (recordLeft (now (source .entry)) (now (tree .entry)) (now (e .entry) .state) (now (out .entry)) (now (bytes .entry))) ⌝ }
+    ensures { λ a. ⌜ Changed e out a (recorded e source tree out bytes) ⌝ }
 {
     let z = entry::engine::record(source, tree, out, e.state, bytes);
     e.state = z.state;
@@ -33,7 +32,7 @@ pub fn record(e: &mut Engine, source: &[u8], tree: &[u8], out: &mut [u8], bytes:
 
 // A run on node k.
 pub fn run(e: &mut Engine, source: &[u8], tree: &[u8], out: &mut [u8], k: RecordNo) -> Answer
-    ensures { λ a. ⌜ Stored (now (e .entry)) a (now (e .exit)) (now (out .exit)) (laidOut (now (source .entry)) (now (tree .entry)) (now (e .entry) .state) (now (out .entry)) k) ⌝ }
+    ensures { λ a. ⌜ Changed e out a (laid e source tree out k) ⌝ }
 {
     let z = format::runs::run(source, tree, out, e.state, k);
     e.state = z.state;
@@ -49,7 +48,7 @@ fn finished(source: &[u8], tree: &[u8], out: &mut [u8], s: State) -> Step
 
 // Lets out what waits, and closes the engine.
 pub fn finish(e: &mut Engine, source: &[u8], tree: &[u8], out: &mut [u8]) -> Answer
-    ensures { λ a. ⌜ Stored (now (e .entry)) a (now (e .exit)) (now (out .exit)) (callLeft (now (source .entry)) (now (tree .entry)) (now (e .entry) .state) (now (out .entry)) Call.Finish) ⌝ }
+    ensures { λ a. ⌜ Changed e out a (called e source tree out Call.Finish) ⌝ }
 {
     let z = finished(source, tree, out, e.state);
     e.state = z.state;
