@@ -1,0 +1,72 @@
+// Shows what a tree holds, and what calls make of it:
+//
+//     outline SCRIPT TREE CALLS
+//
+// For each record its kind, its line and the beginning of its text, set in by its depth; then what was refused of the calls, and the text that
+// they laid out. CALLS has call records, each behind a byte that says how long it is.
+mod calls;
+mod lent;
+mod lines;
+
+use meaning::answer::number;
+use tree::table::decode;
+use tree::table::first;
+
+// A file's bytes in a buffer: how many, or none found.
+struct File {
+    found: bool,
+    len: usize,
+}
+
+// The file that an argument names, as far as the buffer goes.
+fn read(arg: usize, to: &mut [u8]) -> File {
+    let mut path = io::buffer();
+    let n = os::arg(arg, &mut path);
+    let fd = os::open_read(&path[..n]);
+    if fd < 0 {
+        os::fail(&path[..n]);
+        return File {
+            found: false,
+            len: 0,
+        };
+    }
+    let len = io::read_full(fd, to);
+    libc::close(fd);
+    File { found: true, len }
+}
+
+// The outline and the layout of an opened script; else why it is refused.
+fn show(source: &[u8], tree: &[u8], file: &[u8]) {
+    let opened = entry::engine::open(source, tree);
+    let answer = opened.answer;
+    if number(answer) != 0 {
+        calls::refused(answer);
+        return;
+    }
+    let mut words = [0u32; 32768];
+    let n = decode(tree, &mut words);
+    lines::outline(source, first(&words, n), n);
+    let mut out = [0u8; 65536];
+    let state = opened.state;
+    calls::replay(source, tree, &mut out, state, file);
+}
+
+fn main() {
+    if os::arg_count() != 4 {
+        io::write_all(1, b"usage: outline SCRIPT TREE CALLS\n");
+        return;
+    }
+    let mut script = [0u8; 65600];
+    let mut list = [0u8; 131072];
+    let mut file = [0u8; 65536];
+    let s = read(1, &mut script);
+    let t = read(2, &mut list);
+    let c = read(3, &mut file);
+    if s.found && t.found && c.found {
+        show(
+            packed::front(&script, s.len),
+            packed::front(&list, t.len),
+            packed::front(&file, c.len),
+        );
+    }
+}
