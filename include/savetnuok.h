@@ -53,7 +53,7 @@ extern "C" {
 #define SAVETNUOK_DEPTH_MOST 64     /* levels of a tree; the top level is 1 */
 #define SAVETNUOK_WAITING_MOST 256  /* comments that wait */
 #define SAVETNUOK_INDENT_MOST 64    /* units of indentation, four spaces each */
-#define SAVETNUOK_STACK_SIZE 229376 /* bytes of stack that a run may need: 154,024 were measured; a call: 152,320 */
+#define SAVETNUOK_STACK_SIZE 229376 /* bytes of stack that a run may need: 154,024 were measured; a call: 151,248 */
 
 /*
  * ---- what is lent ----

@@ -40,17 +40,8 @@ pub fn item_use_group(
     ensures { λ _. ⌜ Made src table fmt queue out (useGroup (tree table) depth k) ⌝ }
 {
     let mut p = records_of(table, k);
-    let single = is_single(table, k);
-    brace(
-        src,
-        table,
-        fmt,
-        queue,
-        out,
-        &mut p,
-        bytes::BRACE_OPEN,
-        single,
-    );
+    let one = is_single(table, k);
+    brace(src, table, fmt, queue, out, &mut p, bytes::BRACE_OPEN, one);
     let mut comma = fresh();
     while next_is(table, &p, bytes::ITEM_USE_PATH) {
         before_item(src, table, fmt, queue, out, comma);
@@ -59,16 +50,7 @@ pub fn item_use_group(
         comma = behind_item(src, table, fmt, queue, out, &mut p);
     }
     close_list(src, table, fmt, queue, out, comma);
-    brace(
-        src,
-        table,
-        fmt,
-        queue,
-        out,
-        &mut p,
-        bytes::BRACE_CLOSE,
-        single,
-    );
+    brace(src, table, fmt, queue, out, &mut p, bytes::BRACE_CLOSE, one);
     left_over(table, fmt, &p);
 }
 
