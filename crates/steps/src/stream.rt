@@ -12,7 +12,8 @@ ghost use mathlib.Core.Bool.{true};
 ghost use Prim.Native.Nat.{ℕ};
 ghost use lib.ListN.{length};
 ghost use Rattle.queue.specs.Loans.{Refused};
-ghost use Rattle.steps.specs.Stream.{no, isByte, isSome, nextIs, met, takeIf, takeAny, recordsOf, tree, streamAt, Peeked, Ate, streamIn, streamOut, passed};
+ghost use Rattle.steps.specs.Stream.{no, isByte, isSome, nextIs, met, takeIf, takeAny, recordsOf, tree, passed};
+ghost use Rattle.steps.specs.Stream.{streamAt, streamIn, streamOut, Peeked, Ate};
 ghost use Rattle.steps.specs.Flow.{notMet, leftOver, Pumped, Expected};
 
 // Three words: the node, the next record that is no white space and no comment, and the record behind the last.
