@@ -16,7 +16,7 @@ repeated x p zero b = result Done (opened b)
 repeated x p (suc n) b = exec x p (result Done (opened (repeated x p n b .left .buffer)))
 
 abbrev pub laidOut : List ℕ → List ℕ → List ℕ → ℕ → ℕ → Result
-laidOut src tree b k n = let x = scriptAt src tree in repeated x (layout (x .tree) (record { 0 = k })) n b
+laidOut src tree b k n = let x = scriptAt src tree in repeated x (layout x (record { 0 = k })) n b
 
 -- the number that comes back and the whole buffer are those of the last
 pub record Repeats (src tree b : List ℕ) (k times n : ℕ) (b′ : List ℕ) : Type 0 where

@@ -15,7 +15,7 @@ use tree::table::decode;
 use tree::table::first;
 ghost use mathlib.Core.Path.{_≡_};
 ghost use Rattle.unicode.specs.Utf8.{formed};
-ghost use Rattle.text.specs.Chars.{counted};
+ghost use Rattle.width.specs.Count.{counted};
 ghost use Rattle.meaning.specs.Opening.{opening};
 ghost use Rattle.meaning.specs.Numbers.{seen};
 ghost use Rattle.bench.specs.Packed.{packed, found};
@@ -35,7 +35,7 @@ pub extern "C" fn bench_utf8(s: &[u8]) -> u64
 pub extern "C" fn bench_count(s: &[u8], limit: u32) -> u64
     ensures { λ r. ⌜ r ≡ counted limit (now (s .entry)) ⌝ }
 {
-    text::count::count(s, limit)
+    width::count::count(s, limit)
 }
 
 // Opening: the source and the tree are checked, and no state is made.

@@ -1,5 +1,8 @@
 mod EndLaws
-mod AtLeastLaws
+mod RuleLaws
+mod WholeLaws
 pub mod Tame
 pub mod TameSteps
 pub mod TameRules
+pub mod TameParts
+pub mod TameExprs

@@ -17,8 +17,6 @@ use Rattle.paths.specs.Attribute.{modifierWord, modifierIn, apart, modifier, mo
 use Rattle.patterns.specs.Pattern.{patItem, patArray, tupleEnd, tupled, tupleRule, patTuple, objectName, colonPat, objectItem, keyed, objectClosing, objectEnd, patObject, patAttributes, patLit, patChild, pat, noComma, fnArgs}
 use Rattle.bodies.specs.Body.{field, tupleBody, lined, lineEnd, structBody, body, variant, itemStruct, variants, enumBody, itemEnum}
 use Rattle.uses.specs.Use.{usePart, asName, useParts, usePathRule, howMany, isOne, braced, groupRule, usePath, useGroup, itemUse}
-use Rattle.format.specs.Rules.{itemRule, item, rule, layout}
-use Rattle.format.proofs.Tame.{Tame}
 use Rattle.format.proofs.TameSteps.{tame, IsTame, Each, made, deep, _and_, cond-tame, Tamed, _▹_, expected, eaten, parsed, fmt-tame, ignore-tame, remaining-tame, list-tame}
 
 -- ---- by how many items there were
@@ -29,13 +27,13 @@ tuple-end true One c = fmt-tame c
 tuple-end false One c = ignore-tame c
 tuple-end t Many c = ignore-tame c
 
-tupled-tame : (t : Bool) → Tamed (tupled t)
+pub tupled-tame : (t : Bool) → Tamed (tupled t)
 unfolding tupled
 tupled-tame t = record { at = λ s. tuple-end t (s .count) (s .comma) }
 
 -- ---- by how the list ends
 
-object-end : Tamed objectEnd
+pub object-end : Tamed objectEnd
 unfolding objectEnd objectClosing
 object-end = record { at = λ s. ignore-tame (s .comma) and cond-tame (says (s .comma)) made made }
 
@@ -50,7 +48,7 @@ braced-tame single k = cond-tame single made made
 -- ---- rules that follow the tree down, by the depth that is left
 
 module _ (rs : List Record) where
-  path-tame : (d : ℕ) → Each (path rs d)
+  pub path-tame : (d : ℕ) → Each (path rs d)
   unfolding path pathRule pathPart genericsRule
   path-tame zero k = deep
   path-tame (suc d) k = let a = path-tame d in search tame depth 12 fits 2000
@@ -59,24 +57,28 @@ module _ (rs : List Record) where
   unfolding tupleRule patItem
   tuple-rule a trailing = search (tame, tupled-tame) depth 12 fits 2000
 
-  pat-tuple : {pat : RecordNo → Plan} → Each pat → Tamed (patTuple rs pat)
+  pub pat-tuple : {pat : RecordNo → Plan} → Each pat → Tamed (patTuple rs pat)
   unfolding patTuple
   pat-tuple a = record { at = λ s. (eaten (path-tame 64) rs (byteOf Kind.Path) ▹ tuple-rule a (not (nextIs (is rs Kind.Path) s))) .at s }
 
-  pat-array : {pat : RecordNo → Plan} → Each pat → Tamed (patArray rs pat)
+  pub pat-array : {pat : RecordNo → Plan} → Each pat → Tamed (patArray rs pat)
   unfolding patArray patItem
   pat-array a = search tame depth 12 fits 2000
 
-  pat-object : {pat : RecordNo → Plan} → Each pat → Tamed (patObject rs pat)
-  unfolding patObject objectName keyed objectItem colonPat
-  pat-object a = search (tame, path-tame, object-end) depth 12 fits 2000
+  pub object-name : Tamed (objectName rs)
+  unfolding objectName
+  object-name = search (tame, path-tame) depth 12 fits 2000
 
-  pat-tame : (d : ℕ) → Each (pat rs d)
+  pub pat-object : {pat : RecordNo → Plan} → Each pat → Tamed (patObject rs pat)
+  unfolding patObject keyed objectItem colonPat
+  pat-object a = search (tame, object-name, object-end) depth 12 fits 2000
+
+  pub pat-tame : (d : ℕ) → Each (pat rs d)
   unfolding pat patAttributes patChild patLit
   pat-tame zero k = deep
   pat-tame (suc d) k = let a = pat-tame d in search (tame, path-tame, pat-array, pat-tuple, pat-object) depth 24 fits 4000
 
-  group-rule : {path : RecordNo → Plan} → Each path → Tamed (groupRule rs path)
+  pub group-rule : {path : RecordNo → Plan} → Each path → Tamed (groupRule rs path)
   unfolding groupRule
   group-rule a = record {
     at = λ s. let b = braced-tame (isOne (howMany (is rs Kind.ItemUsePath) (s .left))) in
@@ -87,38 +89,41 @@ module _ (rs : List Record) where
   unfolding usePathRule useParts usePart asName
   use-path-rule a = search tame depth 12 fits 2000
 
-  use-path : (d : ℕ) → Tamed (usePath rs d)
+  pub use-path : (d : ℕ) → Tamed (usePath rs d)
   unfolding usePath
   use-path zero = record { at = λ s. deep }
   use-path (suc d) = use-path-rule (parsed rs (group-rule (parsed rs (use-path d))))
 
-  -- ---- a run's plan
+  -- ---- items
 
-  modifiers-tame : Tamed (modifiers rs)
+  pub modifiers-tame : Tamed (modifiers rs)
   unfolding modifiers modifierList modifier apart modifierWord modifierIn
   modifiers-tame = search (tame, path-tame) depth 20 fits 2000
 
-  struct-body : Tamed (structBody rs)
+  pub struct-body : Tamed (structBody rs)
   unfolding structBody field lined lineEnd
   struct-body = search tame depth 12 fits 2000
 
-  tuple-body : Tamed (tupleBody rs)
+  pub tuple-body : Tamed (tupleBody rs)
   unfolding tupleBody field
   tuple-body = search tame depth 12 fits 2000
 
-  variant-tame : Tamed (variant rs)
+  pub variant-tame : Tamed (variant rs)
   unfolding variant body
   variant-tame = search (tame, struct-body, tuple-body) depth 12 fits 2000
 
-  item-tame : (kind : Kind) → Each (item rs kind)
-  unfolding item itemRule itemStruct itemEnum body enumBody variants lined lineEnd itemUse
-  item-tame kind = search (tame, modifiers-tame, struct-body, tuple-body, variant-tame, use-path) depth 20 fits 4000
+  pub item-struct : Tamed (itemStruct rs)
+  unfolding itemStruct body
+  item-struct = search (tame, struct-body, tuple-body) depth 12 fits 2000
 
-  layout-rule : Each (layout rs)
-  unfolding layout rule pathGenerics genericsRule fnArgs useGroup
-  layout-rule =
-      search (tame, path-tame, pat-tame, pat-array, pat-tuple, pat-object, no-comma, struct-body, tuple-body, variant-tame, item-tame, group-rule, use-path) depth 40
-      fits 8000
+  pub item-enum : Tamed (itemEnum rs)
+  unfolding itemEnum enumBody variants lined lineEnd
+  item-enum = search (tame, variant-tame) depth 20 fits 4000
 
-pub layout-tame : (rs : List Record) (k : RecordNo) → Tame (layout rs k)
-layout-tame rs k = layout-rule rs k .tame
+  pub item-use : Tamed (itemUse rs)
+  unfolding itemUse
+  item-use = search (tame, use-path) depth 12 fits 2000
+
+  pub fn-args : Tamed (fnArgs rs)
+  unfolding fnArgs
+  fn-args = search (tame, pat-tame, no-comma) depth 12 fits 2000

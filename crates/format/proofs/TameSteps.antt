@@ -6,7 +6,7 @@ use Rattle.tree.specs.{declared.cursor.Found.Found, declared.cursor.Found.the-v
 use Rattle.meaning.specs.{declared.call.Call.Call, declared.answer.Refusal.the-variants.NoRule, declared.answer.Refusal.the-variants.NoNode}
 use Rattle.steps.specs.{declared.remaining.Mark.the-variants.Comma, declared.remaining.Mark.Mark, Flow.onFound, Flow.eatByte, Flow.leftIn, Loop.turns}
 use Rattle.steps.specs.{Loop.loop, Seen.Seen, Seen.noneYet, Seen.another, Seen.each, Seen.lastly, Remaining.Fresh, Remaining.Missing}
-use Rattle.steps.specs.{Remaining.Present, Remaining.isMark, Remaining.second, Remaining.restIf, Remaining.remaining, Items.item, Items.rested}
+use Rattle.steps.specs.{Remaining.Present, Remaining.isMark, Remaining.second, Remaining.restIf, Remaining.remaining, Remaining.isPresent, Remaining.writeIf, Remaining.writeOnlyIf, Items.item, Items.rested}
 use Rattle.steps.specs.{Items.behind, Items.begin, Items.items, Items.separated, Items.closing, Items.closed}
 use Rattle.format.proofs.Tame.{Tame}
 
@@ -89,7 +89,7 @@ cond-tamed false a b = b
 
 -- ---- taking the next record
 
-found-tame : (o : Found) {f : RecordNo → Plan} {p : Plan} → Each f → IsTame p → IsTame (onFound o f p)
+pub found-tame : (o : Found) {f : RecordNo → Plan} {p : Plan} → Each f → IsTame p → IsTame (onFound o f p)
 unfolding onFound
 found-tame (At k) a b = a k
 found-tame None a b = b
@@ -202,6 +202,16 @@ module _ {rule : RecordNo → Plan} (a : Each rule) where
   pub list-tame : (rs : List Record) (want : ℕ → Bool) → Tamed (list rs want rule)
   unfolding list
   list-tame rs want = items-tame rs listed-tame suffix-tame want ▹ closed-tame
+
+-- ---- two tokens that are written only where they are wanted
+
+pub write-if : (needed : Bool) → Each (writeIf needed)
+unfolding writeIf
+write-if needed r = cond-tame (needed || isPresent r) (fmt-tame r) idle
+
+pub write-only : (wanted : Bool) → Each (writeOnlyIf wanted)
+unfolding writeOnlyIf
+write-only wanted r = cond-tame wanted (fmt-tame r) (ignore-tame r)
 
 -- what the rules are made of
 pub ruleset tame = (idle, made, wrong, deep, no-rule, no-node, _and_, cond-tame, _▹_, plain-tame, cond-tamed, next-tame, pumped, expected, eaten, parsed, looped, each-tame, lastly-tame, fmt-tame, ignore-tame, put-tame, items-tame, listed-tame, list-tame)

@@ -1,62 +1,79 @@
 -- Runs: the rule that a node's kind names. Assumes nothing.
 use Prim.Native.Nat.{ℕ}
-use mathlib.Core.Bool.{cond}
+use mathlib.Core.Bool.{false, cond}
 use mathlib.Core.List.{List}
 use lib.ListN.{length}
-use lib.Dec.{eqb, leb}
-use Rattle.tree.specs.declared.record.Record.{Record}
+use lib.Dec.{eqb, leb, ltb}
 use Rattle.tree.specs.declared.record.RecordNo.{RecordNo}
+use Rattle.tree.specs.Table.{nodeOf}
 use Rattle.kinds.specs.declared.Kind.{Kind}
 use Rattle.kinds.specs.Facts.{byteOf}
 use Rattle.meaning.specs.declared.answer.Refusal.the-variants.{NoRule, NoNode}
 use Rattle.meaning.specs.Opening.{scriptIn}
 use Rattle.meaning.specs.World.{Result}
 use Rattle.meaning.specs.Plan.{Plan, refuse}
+use Rattle.meaning.specs.State.{Script}
 use Rattle.entry.specs.declared.state.State as code
 use Rattle.entry.specs.Ended.{runLeft}
-use Rattle.steps.specs.Stream.{Stream}
-use Rattle.steps.specs.Flow.{Flow, _▸_, is, parse}
-use Rattle.paths.specs.Path.{path, pathGenerics}
-use Rattle.paths.specs.Attribute.{modifiers}
+use Rattle.steps.specs.Flow.{parse}
+use Rattle.paths.specs.Path.{pathGenerics}
 use Rattle.patterns.specs.Pattern.{pat, patArray, patTuple, patObject, fnArgs}
-use Rattle.bodies.specs.Body.{tupleBody, structBody, variant, itemStruct, itemEnum}
-use Rattle.uses.specs.Use.{usePath, useGroup, itemUse}
+use Rattle.bodies.specs.Body.{tupleBody, structBody, variant}
+use Rattle.uses.specs.Use.{usePath, useGroup}
+use Rattle.parts.specs.Sorts.{isStmt, isDecl}
+use Rattle.exprs.specs.Rule.{Rule}
+use Rattle.exprs.specs.List.{exprs}
+use Rattle.exprs.specs.Block.{stmt, stmts}
+use Rattle.exprs.specs.Lay.{lay}
 
--- ---- an item: its modifiers, then the rule of its kind
+-- ---- by the byte of the node's kind; a rule that follows the tree down is given 64 levels, and no opened tree has more
 
-unfoldable pub itemRule : List Record → ℕ → Stream → Flow Stream
-itemRule rs kind = cond (eqb kind (byteOf Kind.ItemStruct)) (itemStruct rs) (cond (eqb kind (byteOf Kind.ItemEnum)) (itemEnum rs) (itemUse rs))
+-- the statements of a body that is no block's: a whole script
+unfoldable pub content : Script → RecordNo → Plan
+content x = parse (x .tree) (stmts x (lay x 63))
 
-unfoldable pub item : List Record → Kind → RecordNo → Plan
-item rs kind = parse rs (modifiers rs ▸ itemRule rs (byteOf kind))
+unfoldable pub arguments : Script → RecordNo → Plan
+arguments x = parse (x .tree) (exprs x (lay x 63) (byteOf Kind.OpenParenthesis) (byteOf Kind.CloseParenthesis))
 
--- ---- by the node's kind; a kind without a rule is refusal 9
+-- a node in the place of an expression; a leaf has no rule of its own
+unfoldable pub byExpr : Script → ℕ → RecordNo → Plan
+byExpr x kind k = cond (ltb kind 0x80) (refuse (NoRule k)) (lay x 64 Rule.Inner k)
 
-unfoldable pub rule : List Record → RecordNo → Plan
-rule rs k =
-    cond (is rs Kind.Path (k .0)) (path rs 64 k)
-    (cond (is rs Kind.PathGenerics (k .0)) (pathGenerics rs 64 k)
-    (cond (is rs Kind.Pat (k .0)) (pat rs 64 k)
-    (cond (is rs Kind.PatArray (k .0)) (parse rs (patArray rs (pat rs 64)) k)
-    (cond (is rs Kind.PatTuple (k .0)) (parse rs (patTuple rs (pat rs 64)) k)
-    (cond (is rs Kind.PatObject (k .0)) (parse rs (patObject rs (pat rs 64)) k)
-    (cond (is rs Kind.FnArgs (k .0)) (parse rs (fnArgs rs) k)
-    (cond (is rs Kind.TupleBody (k .0)) (parse rs (tupleBody rs) k)
-    (cond (is rs Kind.StructBody (k .0)) (parse rs (structBody rs) k)
-    (cond (is rs Kind.Variant (k .0)) (parse rs (variant rs) k)
-    (cond (is rs Kind.ItemStruct (k .0)) (item rs Kind.ItemStruct k)
-    (cond (is rs Kind.ItemEnum (k .0)) (item rs Kind.ItemEnum k)
-    (cond (is rs Kind.ItemUse (k .0)) (item rs Kind.ItemUse k)
-    (cond (is rs Kind.ItemUsePath (k .0)) (parse rs (usePath rs 64) k)
-    (cond (is rs Kind.ItemUseGroup (k .0)) (useGroup rs 64 k)
-    (refuse (NoRule k))))))))))))))))
+-- a part of an item, of a path or of a pattern
+unfoldable pub byPart : Script → ℕ → RecordNo → Plan
+byPart x kind k =
+    let rs = x .tree in
+    cond (eqb kind (byteOf Kind.ItemUsePath)) (parse rs (usePath rs 64) k)
+    (cond (eqb kind (byteOf Kind.ItemUseGroup)) (useGroup rs 64 k)
+    (cond (eqb kind (byteOf Kind.Variant)) (parse rs (variant rs) k)
+    (cond (eqb kind (byteOf Kind.StructBody)) (parse rs (structBody rs) k)
+    (cond (eqb kind (byteOf Kind.TupleBody)) (parse rs (tupleBody rs) k)
+    (cond (eqb kind (byteOf Kind.FnArgs)) (parse rs (fnArgs rs) k)
+    (cond (eqb kind (byteOf Kind.PathGenerics)) (pathGenerics rs 64 k)
+    (cond (eqb kind (byteOf Kind.Pat)) (pat rs 64 k)
+    (cond (eqb kind (byteOf Kind.PatArray)) (parse rs (patArray rs (pat rs 64)) k)
+    (cond (eqb kind (byteOf Kind.PatTuple)) (parse rs (patTuple rs (pat rs 64)) k)
+    (cond (eqb kind (byteOf Kind.PatObject)) (parse rs (patObject rs (pat rs 64)) k)
+    (byExpr x kind k)))))))))))
+
+unfoldable pub ruleOf : Script → ℕ → RecordNo → Plan
+ruleOf x kind k =
+    cond (isStmt kind) (stmt (lay x 64) kind k)
+    (cond (isDecl kind) (lay x 64 Rule.Decl k)
+    (cond (eqb kind (byteOf Kind.BlockBody)) (content x k)
+    (cond (eqb kind (byteOf Kind.ExprCall)) (arguments x k)
+    (cond (eqb kind (byteOf Kind.Condition)) (lay x 64 (Rule.Let false) k)
+    (byPart x kind k)))))
+
+unfoldable pub rule : Script → RecordNo → Plan
+rule x k = ruleOf x (nodeOf (x .tree) (k .0) .kind) k
 
 -- ---- a run
 
 -- 11, then the rule
-unfoldable pub layout : List Record → RecordNo → Plan
-layout rs k = cond (leb (length rs) (k .0)) (refuse (NoNode k)) (rule rs k)
+unfoldable pub layout : Script → RecordNo → Plan
+layout x k = cond (leb (length (x .tree)) (k .0)) (refuse (NoNode k)) (rule x k)
 
 -- from the lent state s and the buffer b
 abbrev pub laidOut : List ℕ → List ℕ → code.State → List ℕ → RecordNo → Result
-laidOut src tree s b k = runLeft src tree s b (layout (scriptIn src tree .tree) k)
+laidOut src tree s b k = runLeft src tree s b (layout (scriptIn src tree) k)

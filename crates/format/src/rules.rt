@@ -1,13 +1,12 @@
 // The rule that a run takes, by its node's kind. A rule that follows the tree down is given 64 levels, and no opened tree has more.
-use bodies::body::item_enum;
-use bodies::body::item_struct;
 use bodies::body::variant;
 use bodies::fields::struct_body;
 use bodies::fields::tuple_body;
+use exprs::Lay;
 use kinds::bytes;
 use meaning::answer::Refusal;
-use paths::modifier::modifiers;
-use paths::path::path;
+use parts::sorts::is_decl;
+use parts::sorts::is_stmt;
 use paths::path::path_generics;
 use patterns::fn_args::fn_args;
 use patterns::pat::pat;
@@ -17,41 +16,57 @@ use patterns::pat::pat_tuple;
 use queue::formatter::Formatter;
 use queue::formatter::refuse;
 use queue::ring::Queue;
-use steps::stream::Stream;
 use steps::stream::left_over;
 use steps::stream::records_of;
 use tree::record::RecordNo;
 use tree::table::kind_at;
-use uses::item_use::item_use;
 use uses::item_use::item_use_group;
 use uses::item_use::use_node;
-ghost use Rattle.queue.specs.Loans.{Made};
-ghost use Rattle.steps.specs.Stream.{tree};
-ghost use Rattle.steps.specs.Flow.{Walked, _▸_, parse};
-ghost use Rattle.paths.specs.Attribute.{modifiers};
-ghost use Rattle.format.specs.Rules.{itemRule, rule};
+ghost use Rattle.queue.specs.Loans.{Made, script};
+ghost use Rattle.format.specs.Rules.{content, arguments, byExpr, byPart, rule};
 
-// The rule of an item's kind.
-fn item_rule(
+// The statements of a body that is no block's: a whole script.
+pub fn content(
     src: &[u8],
     table: &[u32],
     fmt: &mut Formatter,
     queue: &mut Queue,
     out: &mut [u8],
-    p: &mut Stream,
-    kind: u8,
+    k: RecordNo,
 )
-    ensures { λ _. ⌜ Walked src table fmt queue out p (itemRule (tree table) kind) ⌝ }
+    ensures { λ _. ⌜ Made src table fmt queue out (content (script src table) k) ⌝ }
 {
-    match kind {
-        bytes::ITEM_STRUCT => item_struct(src, table, fmt, queue, out, p),
-        bytes::ITEM_ENUM => item_enum(src, table, fmt, queue, out, p),
-        _ => item_use(src, table, fmt, queue, out, p),
-    }
+    let mut p = records_of(table, k);
+    Lay::stmts(src, table, fmt, queue, out, &mut p, 63);
+    left_over(table, fmt, &p);
 }
 
-// An item: its modifiers, then the rule of its kind.
-fn item(
+// A call's arguments, in their parentheses.
+fn arguments(
+    src: &[u8],
+    table: &[u32],
+    fmt: &mut Formatter,
+    queue: &mut Queue,
+    out: &mut [u8],
+    k: RecordNo,
+)
+    ensures { λ _. ⌜ Made src table fmt queue out (arguments (script src table) k) ⌝ }
+{
+    Lay::exprs(
+        src,
+        table,
+        fmt,
+        queue,
+        out,
+        k,
+        bytes::PAREN_OPEN,
+        bytes::PAREN_CLOSE,
+        63,
+    );
+}
+
+// A node in the place of an expression; a leaf has no rule of its own.
+fn by_expr(
     src: &[u8],
     table: &[u32],
     fmt: &mut Formatter,
@@ -60,12 +75,41 @@ fn item(
     k: RecordNo,
     kind: u8,
 )
-    ensures { λ _. ⌜ Made src table fmt queue out (parse (tree table) (modifiers (tree table) ▸ itemRule (tree table) kind) k) ⌝ }
+    ensures { λ _. ⌜ Made src table fmt queue out (byExpr (script src table) kind k) ⌝ }
 {
-    let mut p = records_of(table, k);
-    modifiers(src, table, fmt, queue, out, &mut p);
-    item_rule(src, table, fmt, queue, out, &mut p, kind);
-    left_over(table, fmt, &p);
+    if kind < 0x80 {
+        refuse(fmt, Refusal::NoRule(k));
+        return;
+    }
+    Lay::inner(src, table, fmt, queue, out, k, 64);
+}
+
+// A part of an item, of a path or of a pattern.
+fn by_part(
+    src: &[u8],
+    table: &[u32],
+    fmt: &mut Formatter,
+    queue: &mut Queue,
+    out: &mut [u8],
+    k: RecordNo,
+    kind: u8,
+)
+    ensures { λ _. ⌜ Made src table fmt queue out (byPart (script src table) kind k) ⌝ }
+{
+    match kind {
+        bytes::ITEM_USE_PATH => use_node(src, table, fmt, queue, out, k, 64),
+        bytes::ITEM_USE_GROUP => item_use_group(src, table, fmt, queue, out, k, 64),
+        bytes::VARIANT => variant(src, table, fmt, queue, out, k),
+        bytes::STRUCT_BODY => struct_body(src, table, fmt, queue, out, k),
+        bytes::TUPLE_BODY => tuple_body(src, table, fmt, queue, out, k),
+        bytes::FN_ARGS => fn_args(src, table, fmt, queue, out, k),
+        bytes::PATH_GENERICS => path_generics(src, table, fmt, queue, out, k, 64),
+        bytes::PAT => pat(src, table, fmt, queue, out, k, 64),
+        bytes::PAT_ARRAY => pat_array(src, table, fmt, queue, out, k, 64),
+        bytes::PAT_TUPLE => pat_tuple(src, table, fmt, queue, out, k, 64),
+        bytes::PAT_OBJECT => pat_object(src, table, fmt, queue, out, k, 64),
+        _ => by_expr(src, table, fmt, queue, out, k, kind),
+    }
 }
 
 // A kind for which no rule is named is refusal 9.
@@ -77,25 +121,21 @@ pub fn rule(
     out: &mut [u8],
     k: RecordNo,
 )
-    ensures { λ _. ⌜ Made src table fmt queue out (rule (tree table) k) ⌝ }
+    ensures { λ _. ⌜ Made src table fmt queue out (rule (script src table) k) ⌝ }
 {
     let kind = kind_at(table, k);
+    if is_stmt(kind) {
+        Lay::stmt(src, table, fmt, queue, out, k, kind, 64);
+        return;
+    }
+    if is_decl(kind) {
+        Lay::decl(src, table, fmt, queue, out, k, 64);
+        return;
+    }
     match kind {
-        bytes::PATH => path(src, table, fmt, queue, out, k, 64),
-        bytes::PATH_GENERICS => path_generics(src, table, fmt, queue, out, k, 64),
-        bytes::PAT => pat(src, table, fmt, queue, out, k, 64),
-        bytes::PAT_ARRAY => pat_array(src, table, fmt, queue, out, k, 64),
-        bytes::PAT_TUPLE => pat_tuple(src, table, fmt, queue, out, k, 64),
-        bytes::PAT_OBJECT => pat_object(src, table, fmt, queue, out, k, 64),
-        bytes::FN_ARGS => fn_args(src, table, fmt, queue, out, k),
-        bytes::TUPLE_BODY => tuple_body(src, table, fmt, queue, out, k),
-        bytes::STRUCT_BODY => struct_body(src, table, fmt, queue, out, k),
-        bytes::VARIANT => variant(src, table, fmt, queue, out, k),
-        bytes::ITEM_STRUCT => item(src, table, fmt, queue, out, k, kind),
-        bytes::ITEM_ENUM => item(src, table, fmt, queue, out, k, kind),
-        bytes::ITEM_USE => item(src, table, fmt, queue, out, k, kind),
-        bytes::ITEM_USE_PATH => use_node(src, table, fmt, queue, out, k, 64),
-        bytes::ITEM_USE_GROUP => item_use_group(src, table, fmt, queue, out, k, 64),
-        _ => refuse(fmt, Refusal::NoRule(k)),
+        bytes::BLOCK_BODY => content(src, table, fmt, queue, out, k),
+        bytes::EXPR_CALL => arguments(src, table, fmt, queue, out, k),
+        bytes::CONDITION => Lay::let_(src, table, fmt, queue, out, k, false, 64),
+        _ => by_part(src, table, fmt, queue, out, k, kind),
     }
 }

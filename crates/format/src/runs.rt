@@ -1,6 +1,7 @@
-// A run: the checks on what is lent, 10, 11, 9, then the calls of the node's rule, and its end.
+// A run, on a node or on a whole script: the checks on what is lent, 10, then the calls of its plan, and its end.
 use crate::ended::ended;
 use crate::rules::rule;
+use crate::whole::whole;
 use entry::checks::lent;
 use entry::checks::opening;
 use entry::state::State;
@@ -15,10 +16,10 @@ use tree::record::RecordNo;
 use tree::table::decode;
 use tree::table::first;
 use tree::table::size;
-ghost use Rattle.queue.specs.Loans.{Made};
-ghost use Rattle.steps.specs.Stream.{tree};
+ghost use Rattle.queue.specs.Loans.{Made, script};
 ghost use Rattle.entry.specs.Served.{Served};
 ghost use Rattle.format.specs.Rules.{layout, laidOut};
+ghost use Rattle.format.specs.Whole.{laidWhole};
 
 // Refusal 11, then the rule of the node.
 pub fn layout(
@@ -29,7 +30,7 @@ pub fn layout(
     out: &mut [u8],
     k: RecordNo,
 )
-    ensures { λ _. ⌜ Made src table fmt queue out (layout (tree table) k) ⌝ }
+    ensures { λ _. ⌜ Made src table fmt queue out (layout (script src table) k) ⌝ }
 {
     if size(table).0 <= k.0 {
         refuse(fmt, Refusal::NoNode(k));
@@ -50,5 +51,20 @@ pub fn run(source: &[u8], tree: &[u8], out: &mut [u8], s: State, k: RecordNo) ->
     lent(source, &mut fmt, &queue, out.len());
     stops(&mut fmt);
     layout(source, first(&words, n), &mut fmt, &mut queue, out, k);
+    ended(out, s, &fmt, &queue)
+}
+
+// A whole layout, over what is lent anew.
+pub fn lay_out(source: &[u8], tree: &[u8], out: &mut [u8], s: State) -> Step
+    ensures { λ r. ⌜ Served s r (now (out .exit)) (laidWhole (now (source .entry)) (now (tree .entry)) s (now (out .entry))) ⌝ }
+{
+    let mut words = [0u32; 32768];
+    let n = decode(tree, &mut words);
+    let mut queue = s.queue;
+    let now = s.now;
+    let mut fmt = started(now, opening(source, tree));
+    lent(source, &mut fmt, &queue, out.len());
+    stops(&mut fmt);
+    whole(source, first(&words, n), &mut fmt, &mut queue, out);
     ended(out, s, &fmt, &queue)
 }

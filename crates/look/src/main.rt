@@ -47,7 +47,7 @@ fn good(source: &[u8], n: RecordNo) {
     say(b"good: ");
     number(source.len() as u64);
     say(b" bytes, ");
-    number(text::count::count(source, 0xFFFF_FFFF));
+    number(width::count::count(source, 0xFFFF_FFFF));
     say(b" characters outside white space, ");
     number(text::lines::count_newlines(source) as u64);
     say(b" newlines; ");

@@ -6,7 +6,8 @@ use mathlib.Core.Option.{none, some}
 use lib.Dec.{T}
 use Rattle.unicode.specs.White.{mem, whites, isWhite}
 use Rattle.unicode.specs.Utf8.{table, allIn, lenBy, charLen}
-use Rattle.text.specs.Chars.{starts, inSource, code, charsFrom, dark}
+use Rattle.text.specs.Chars.{starts, inSource, code, charsFrom}
+use Rattle.width.specs.Count.{dark, isAtLeast}
 use Rattle.text.specs.Lines.{trim, newlines}
 use Rattle.tree.specs.Records.{four}
 use Rattle.tree.specs.Table.{nodeOf}
@@ -25,7 +26,6 @@ use Rattle.meaning.specs.CallRecord.{decode}
 use Rattle.meaning.specs.Lent.{lentState, serve}
 use Rattle.meaning.specs.World.{World, world, result, call}
 use Rattle.meaning.specs.Plan.{Plan, make, refuse, _then_, exec, zeroed, ready, run}
-use Rattle.meaning.specs.AtLeast.{isAtLeast}
 use Rattle.meaning.specs.Cases as cases
 
 -- P1 to P10 hold

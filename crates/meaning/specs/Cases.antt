@@ -14,7 +14,7 @@ use Rattle.meaning.specs.declared.answer.Answer.the-variants.{Done}
 use Rattle.meaning.specs.State.{Script, Comment}
 use Rattle.meaning.specs.World.{World, world, output, Result, result, call}
 use Rattle.meaning.specs.Numbers.{Seen, _from_, seen}
-use Rattle.meaning.specs.AtLeast.{isAtLeast}
+use Rattle.width.specs.Count.{isAtLeast}
 
 -- ---- texts
 

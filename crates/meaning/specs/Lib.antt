@@ -14,6 +14,5 @@ pub mod Plan
 pub mod Leaves
 pub mod History
 pub mod Demand3
-pub mod AtLeast
 pub mod Cases
 pub mod LentCases

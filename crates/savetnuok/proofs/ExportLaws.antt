@@ -21,12 +21,13 @@ use Rattle.meaning.specs.World.{World, world, Result, result, callRecord}
 use Rattle.queue.specs.Run.{isRefused}
 use Rattle.entry.specs.Served.{stateOf, encoded, leftOf, Served, recordLeft}
 use Rattle.meaning.proofs.Kept.{Bounded, record-bounded}
-use Rattle.format.specs.Rules.{laidOut}
-use Rattle.format.proofs.TameRules.{layout-tame}
+use Rattle.entry.specs.Ended.{runLeft}
+use Rattle.meaning.specs.Plan.{Plan}
+use Rattle.format.proofs.Tame.{Tame}
 use Rattle.words.specs.Words.{wordAt, inBytes}
 use Rattle.words.specs.StateBytes.{shaped, stateIn, bytesOf}
 use Rattle.words.specs.CodeState.{codeState, codeWords, Wrote, placeWord, Packed}
-use Rattle.savetnuok.specs.Exported.{packed, thenShape, stateLeft, openAnswer, Opened, Handed, callResult, Called, layoutOf, runResult, Laid}
+use Rattle.savetnuok.specs.Exported.{packed, thenShape, stateLeft, openAnswer, Opened, Handed, callResult, Called, runResult, Laid}
 use Rattle.savetnuok.proofs.PlaceLaws.{open-placed, shape-placed}
 use Rattle.savetnuok.proofs.ReadLaws.{Agree, agree}
 use Rattle.savetnuok.proofs.RunLaws.{run-bounded, agree-run}
@@ -220,15 +221,15 @@ module _ (src tree st b bytes : List ℕ) {t : Bool} (et : t ≡ shaped st (leng
       pub call-done : {st′ : List ℕ} → length b′ ≡ length b → Wrote (codeWords (z .state)) st′ → Called src tree st b bytes 0 st′ b′
       call-done = asked-done st b et ht (callResult src tree st b bytes) by-engine agreed served bounded eu hu
 
--- ---- run
+-- ---- run and layout: a plan that refuses by record numbers only
 
-module _ (src tree st b : List ℕ) (k : ℕ) {t : Bool} (et : t ≡ shaped st (length b)) where
-  pub run-misshapen : {n : ℕ} {a a′ : Answer} → t ≡ false → a ≡ opening src tree → a′ ≡ thenShape a false → Packed 0 a′ n → Laid src tree st b k n st b
-  run-misshapen h ea ea′ en = let f : shaped st (length b) ≡ false = sym et ∙ h in handed-misshapen src tree st b (runResult src tree st b k) (rw f) ea ea′ en
+module _ (src tree st b : List ℕ) (p : Plan) (a : Tame p) {t : Bool} (et : t ≡ shaped st (length b)) where
+  pub run-misshapen : {n : ℕ} {a a′ : Answer} → t ≡ false → a ≡ opening src tree → a′ ≡ thenShape a false → Packed 0 a′ n → Laid src tree st b p n st b
+  run-misshapen h ea ea′ en = let f : shaped st (length b) ≡ false = sym et ∙ h in handed-misshapen src tree st b (runResult src tree st b p) (rw f) ea ea′ en
 
-  module _ (ht : t ≡ true) {s : code.State} (es : s ≡ codeState st) (small : s .now .len < 0x100000000) {z : Step} {b′ : List ℕ} (promised : Served s z b′ (laidOut src tree s b (record { 0 = k }))) where
+  module _ (ht : t ≡ true) {s : code.State} (es : s ≡ codeState st) (small : s .now .len < 0x100000000) {z : Step} {b′ : List ℕ} (promised : Served s z b′ (runLeft src tree s b p)) where
     by-rules : Result
-    by-rules = laidOut src tree (codeState st) b (record { 0 = k })
+    by-rules = runLeft src tree (codeState st) b p
 
     laid-served : Served (codeState st) z b′ by-rules
     unfolding by-rules
@@ -237,24 +238,24 @@ module _ (src tree st b : List ℕ) (k : ℕ) {t : Bool} (et : t ≡ shaped st (
     laid-small : wordAt st 0 < 0x100000000
     laid-small = rw es at small
 
-    laid-agreed : Agree (wordAt st 4) (runResult src tree st b k) by-rules
+    laid-agreed : Agree (wordAt st 4) (runResult src tree st b p) by-rules
     unfolding by-rules
     laid-agreed =
         let f : shaped st (length b) ≡ true = sym et ∙ ht in
-        rw f (agree-run (opening src tree) (scriptIn src tree) st b (layoutOf tree k) laid-small (shape-fits st (length b) et ht) (open-placed (opened src tree) (wordAt st 4)) (layout-tame (records tree) (record { 0 = k })))
+        rw f (agree-run (opening src tree) (scriptIn src tree) st b p laid-small (shape-fits st (length b) et ht) (open-placed (opened src tree) (wordAt st 4)) a)
 
     laid-bounded : by-rules .answer ≡ Done → Bounded (length b) (by-rules .left .state)
     unfolding by-rules
     laid-bounded =
-        run-bounded (scriptIn src tree) (world (stateOf (codeState st)) b) laid-small (opening src tree) (open-placed (opened src tree) (min (wordAt st 4) 255)) (shape-fits st (length b) et ht) (layoutOf tree k)
-        (layout-tame (records tree) (record { 0 = k }))
+        run-bounded (scriptIn src tree) (world (stateOf (codeState st)) b) laid-small (opening src tree) (open-placed (opened src tree) (min (wordAt st 4) 255)) (shape-fits st (length b) et ht) p
+        a
 
-    pub run-refused : {n indent : ℕ} {u : Bool} → u ≡ isRefused (z .answer) → u ≡ true → indent ≡ wordAt st 4 → Packed indent (z .answer) n → Laid src tree st b k n st b′
-    run-refused eu hu ei en = asked-refused st b et ht (runResult src tree st b k) by-rules laid-agreed laid-served eu hu (rw ei at en)
+    pub run-refused : {n indent : ℕ} {u : Bool} → u ≡ isRefused (z .answer) → u ≡ true → indent ≡ wordAt st 4 → Packed indent (z .answer) n → Laid src tree st b p n st b′
+    run-refused eu hu ei en = asked-refused st b et ht (runResult src tree st b p) by-rules laid-agreed laid-served eu hu (rw ei at en)
 
     module _ {u : Bool} (eu : u ≡ isRefused (z .answer)) (hu : u ≡ false) where
       pub run-len : z .state .now .len < 4294967296
-      run-len = asked-len st b et ht (runResult src tree st b k) by-rules laid-agreed laid-served laid-bounded eu hu
+      run-len = asked-len st b et ht (runResult src tree st b p) by-rules laid-agreed laid-served laid-bounded eu hu
 
-      pub run-done : {st′ : List ℕ} → length b′ ≡ length b → Wrote (codeWords (z .state)) st′ → Laid src tree st b k 0 st′ b′
-      run-done = asked-done st b et ht (runResult src tree st b k) by-rules laid-agreed laid-served laid-bounded eu hu
+      pub run-done : {st′ : List ℕ} → length b′ ≡ length b → Wrote (codeWords (z .state)) st′ → Laid src tree st b p 0 st′ b′
+      run-done = asked-done st b et ht (runResult src tree st b p) by-rules laid-agreed laid-served laid-bounded eu hu

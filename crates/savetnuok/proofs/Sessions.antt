@@ -16,7 +16,7 @@ use Rattle.meaning.specs.Numbers.{refusalSeen}
 use Rattle.queue.specs.View.{wordsOf, slotsOf}
 use Rattle.meaning.specs.World as World
 use Rattle.meaning.specs.World.{World, world, capacity, Result, callRecord}
-use Rattle.meaning.specs.Plan.{run}
+use Rattle.meaning.specs.Plan.{Plan, run}
 use Rattle.meaning.specs.History.{after, went}
 use Rattle.meaning.specs.Demand3.{Demand3}
 use Rattle.meaning.proofs.Numbers.{one-to-twelve}
@@ -24,8 +24,8 @@ use Rattle.meaning.proofs.Leaves.{record-refused, run-refused}
 use Rattle.meaning.proofs.Opens.{demand3-opened}
 use Rattle.words.specs.Words.{inBytes, wordBytes}
 use Rattle.words.specs.StateBytes.{shaped, stateIn, bytesOf}
-use Rattle.savetnuok.specs.Exported.{packed, thenShape, openAnswer, Opened, Handed, callResult, Called, layoutOf, runResult, Laid}
-use Rattle.savetnuok.specs.Session.{Turn, eventOf, Session, ended, called, laid}
+use Rattle.savetnuok.specs.Exported.{packed, thenShape, openAnswer, Opened, Handed, callResult, Called, layoutOf, wholeOf, runResult, Laid}
+use Rattle.savetnuok.specs.Session.{Turn, eventOf, Session, ended, called, laid, laid-whole}
 use Rattle.words.proofs.BackLaws.{Words, reads-back, shaped-back}
 
 -- ---- a fresh engine
@@ -59,7 +59,7 @@ then-done : (a : Answer) (t : Bool) → thenShape a t ≡ Done → a ≡ Done
 then-done Done t e = refl
 then-done (Refused r) t e = e
 
--- ---- one call, or one run
+-- ---- one call, or one run of a plan
 
 -- the bytes of state and buffer mean what is left, and have the shape that is asked
 record Linked (w : World) (st b : List ℕ) : Type 0 where
@@ -90,36 +90,39 @@ module _ (src tree : List ℕ) (opens : opening src tree ≡ Done) where
       let l = record-refused Done (scriptIn src tree) (world (stateIn st) b) bytes r e in
       record { state = ap (λ (w : World). w .state) l; size = ap capacity l }
 
-  run-link : (st b : List ℕ) (k : ℕ) {st₁ b₁ : List ℕ} {n : ℕ} → Laid src tree st b k n st₁ b₁ → shaped st (length b) ≡ true
-      → Linked (run Done (scriptIn src tree) (world (stateIn st) b) (layoutOf tree k) .left) st₁ b₁
-  run-link st b k {st₁} {b₁} {n} c h =
-      let q : runResult src tree st b k ≡ run Done (scriptIn src tree) (world (stateIn st) b) (layoutOf tree k) = rw (opens, h) in
-      link st b (run Done (scriptIn src tree) (world (stateIn st) b) (layoutOf tree k)) (subst (λ (r : Result). Handed st r n st₁ b₁) q c) h λ r e.
-      let l = run-refused Done (scriptIn src tree) (world (stateIn st) b) (layoutOf tree k) r e in
+  run-link : (st b : List ℕ) (p : Plan) {st₁ b₁ : List ℕ} {n : ℕ} → Laid src tree st b p n st₁ b₁ → shaped st (length b) ≡ true
+      → Linked (run Done (scriptIn src tree) (world (stateIn st) b) p .left) st₁ b₁
+  run-link st b p {st₁} {b₁} {n} c h =
+      let q : runResult src tree st b p ≡ run Done (scriptIn src tree) (world (stateIn st) b) p = rw (opens, h) in
+      link st b (run Done (scriptIn src tree) (world (stateIn st) b) p) (subst (λ (r : Result). Handed st r n st₁ b₁) q c) h λ r e.
+      let l = run-refused Done (scriptIn src tree) (world (stateIn st) b) p r e in
       record { state = l .state; size = l .size }
 
   -- ---- all turns of a session
 
   row : {st b st′ b′ : List ℕ} {turns : List Turn} → Session src tree st b turns st′ b′ → shaped st (length b) ≡ true
-      → world (stateIn st′) b′ ≡ after Done (scriptIn src tree) (world (stateIn st) b) (map (eventOf tree) turns)
+      → world (stateIn st′) b′ ≡ after Done (scriptIn src tree) (world (stateIn st) b) (map (eventOf src tree) turns)
   unfolding after
   row ended h = refl
   row {st} {b} (called {bytes} {more} c s) h =
       let l = call-link st b bytes c h in
-      row s (l .shape) ∙ ap (λ (w : World). after Done (scriptIn src tree) w (map (eventOf tree) more)) (l .means)
+      row s (l .shape) ∙ ap (λ (w : World). after Done (scriptIn src tree) w (map (eventOf src tree) more)) (l .means)
   row {st} {b} (laid {k} {more} c s) h =
-      let l = run-link st b k c h in
-      row s (l .shape) ∙ ap (λ (w : World). after Done (scriptIn src tree) w (map (eventOf tree) more)) (l .means)
+      let l = run-link st b (layoutOf src tree k) c h in
+      row s (l .shape) ∙ ap (λ (w : World). after Done (scriptIn src tree) w (map (eventOf src tree) more)) (l .means)
+  row {st} {b} (laid-whole {more} c s) h =
+      let l = run-link st b (wholeOf src tree) c h in
+      row s (l .shape) ∙ ap (λ (w : World). after Done (scriptIn src tree) w (map (eventOf src tree) more)) (l .means)
 
--- demand 3 at the level of the functions that C calls, over every history of calls and runs: from an opening that answered 0, over a buffer
+-- demand 3 at the level of the functions that C calls, over every history of calls, runs and layouts: from an opening that answered 0, over a buffer
 -- whose length fits a word, of the state and the buffer that the session leaves
 pub session-demand3 : (src tree st₀ buf : List ℕ) {st st′ b′ : List ℕ} {turns : List Turn} → Opened src tree st₀ 0 st → length buf ≤ 0xFFFFFFFF → Session src tree st buf turns st′ b′
-    → Demand3 (scriptIn src tree) (went Done (scriptIn src tree) (World.opened buf) (map (eventOf tree) turns)) (world (stateIn st′) b′)
+    → Demand3 (scriptIn src tree) (went Done (scriptIn src tree) (World.opened buf) (map (eventOf src tree) turns)) (world (stateIn st′) b′)
 session-demand3 src tree st₀ buf {st} {st′} {b′} {turns} o fits s =
     let d : openAnswer src tree st₀ ≡ Done = zero-done (openAnswer src tree st₀) (sym (o .answer)) in
     let opens : opening src tree ≡ Done = then-done (opening src tree) (eqb (length st₀) 4128) d in
     let e : st ≡ bytesOf fresh = o .state ∙ rw d in
-    let r : world (stateIn st′) b′ ≡ after Done (scriptIn src tree) (World.opened buf) (map (eventOf tree) turns) =
+    let r : world (stateIn st′) b′ ≡ after Done (scriptIn src tree) (World.opened buf) (map (eventOf src tree) turns) =
     row src tree opens s (rw e (shaped-back fresh fresh-words (length buf) fits))
-    ∙ ap (λ (w : World). after Done (scriptIn src tree) w (map (eventOf tree) turns)) (rw (e, reads-back fresh fresh-words)) in
-    rw r (demand3-opened src tree opens buf (map (eventOf tree) turns))
+    ∙ ap (λ (w : World). after Done (scriptIn src tree) w (map (eventOf src tree) turns)) (rw (e, reads-back fresh fresh-words)) in
+    rw r (demand3-opened src tree opens buf (map (eventOf src tree) turns))

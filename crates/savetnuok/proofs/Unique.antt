@@ -6,6 +6,7 @@ use mathlib.Core.List.{List}
 use Rattle.meaning.specs.declared.answer.Answer.{Answer}
 use Rattle.meaning.specs.Numbers.{seen}
 use Rattle.meaning.specs.World.{Result}
+use Rattle.meaning.specs.Plan.{Plan}
 use Rattle.savetnuok.specs.Exported.{packed, Opened, Handed, callResult, Called, runResult, Laid}
 
 -- the answer, and every byte of what was lent
@@ -24,8 +25,9 @@ module _ (src tree st : List ℕ) where
   pub call-once : (b bytes : List ℕ) {n n′ : ℕ} {st₁ st₂ b₁ b₂ : List ℕ} → Called src tree st b bytes n st₁ b₁ → Called src tree st b bytes n′ st₂ b₂ → Same n n′ st₁ st₂ b₁ b₂
   call-once b bytes = handed-once (callResult src tree st b bytes)
 
-  pub run-once : (b : List ℕ) (node : ℕ) {n n′ : ℕ} {st₁ st₂ b₁ b₂ : List ℕ} → Laid src tree st b node n st₁ b₁ → Laid src tree st b node n′ st₂ b₂ → Same n n′ st₁ st₂ b₁ b₂
-  run-once b node = handed-once (runResult src tree st b node)
+  -- of a run on a node, and of a whole layout
+  pub run-once : (b : List ℕ) (p : Plan) {n n′ : ℕ} {st₁ st₂ b₁ b₂ : List ℕ} → Laid src tree st b p n st₁ b₁ → Laid src tree st b p n′ st₂ b₂ → Same n n′ st₁ st₂ b₁ b₂
+  run-once b p = handed-once (runResult src tree st b p)
 
 -- the number above, the place below
 pub unpacked : (a : Answer) → seen a .place < 0x100000000 → (packed a / 0x100000000 ≡ seen a .number) × (packed a % 0x100000000 ≡ seen a .place)

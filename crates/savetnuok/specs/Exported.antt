@@ -6,7 +6,6 @@ use mathlib.Core.List.{List}
 use lib.ListN.{length}
 use lib.Dec.{eqb}
 use denote.Ref.{now}
-use Rattle.tree.specs.Records.{records}
 use Rattle.meaning.specs.declared.answer.Refusal.the-variants.{QueueFull}
 use Rattle.meaning.specs.declared.answer.Answer.{Answer}
 use Rattle.meaning.specs.declared.answer.Answer.the-variants.{Done, Refused}
@@ -17,6 +16,7 @@ use Rattle.meaning.specs.World.{world, Result, result, callRecord}
 use Rattle.meaning.specs.Plan.{Plan, run}
 use Rattle.queue.specs.Loans.{Loan}
 use Rattle.format.specs.Rules.{layout}
+use Rattle.format.specs.Whole.{whole}
 use Rattle.words.specs.StateBytes.{shaped, stateIn, bytesOf}
 
 -- 0 for done, else the refusal's number times 2^32, and its place, which each promise says to be below 2^32
@@ -68,21 +68,31 @@ abbrev pub CalledOn : Loan → Loan → Loan → Loan → Loan → ℕ → Type 
 CalledOn source tree state out bytes n =
     Called (now (source .entry)) (now (tree .entry)) (now (state .entry)) (now (out .entry)) (now (bytes .entry)) n (now (state .exit)) (now (out .exit))
 
--- ---- run: 1, 2, 3, 7, the shape, then whatever the run on node k meets
+-- ---- run and layout: 1, 2, 3, 7, the shape, then whatever the plan meets
 
--- the calls of the node's rule
-abbrev pub layoutOf : List ℕ → ℕ → Plan
-layoutOf tree k = layout (records tree) (record { 0 = k })
+-- the calls of the rule of node k
+abbrev pub layoutOf : List ℕ → List ℕ → ℕ → Plan
+layoutOf src tree k = layout (scriptIn src tree) (record { 0 = k })
+
+-- those of a whole layout
+abbrev pub wholeOf : List ℕ → List ℕ → Plan
+wholeOf src tree = whole (scriptIn src tree)
 
 -- a refused run zeroes the buffer from the former length on; of a state without the shape no word is trusted, so nothing is touched there
-abbrev pub runResult : List ℕ → List ℕ → List ℕ → List ℕ → ℕ → Result
-runResult src tree st b k =
-    cond (shaped st (length b)) (run (opening src tree) (scriptIn src tree) (world (stateIn st) b) (layoutOf tree k))
+abbrev pub runResult : List ℕ → List ℕ → List ℕ → List ℕ → Plan → Result
+runResult src tree st b p =
+    cond (shaped st (length b)) (run (opening src tree) (scriptIn src tree) (world (stateIn st) b) p)
     (result (thenShape (opening src tree) false) (world (stateIn st) b))
 
-abbrev pub Laid : List ℕ → List ℕ → List ℕ → List ℕ → ℕ → ℕ → List ℕ → List ℕ → Type 0
-Laid src tree st b k n st′ b′ = Handed st (runResult src tree st b k) n st′ b′
+abbrev pub Laid : List ℕ → List ℕ → List ℕ → List ℕ → Plan → ℕ → List ℕ → List ℕ → Type 0
+Laid src tree st b p n st′ b′ = Handed st (runResult src tree st b p) n st′ b′
 
 abbrev pub LaidOn : Loan → Loan → Loan → Loan → ℕ → ℕ → Type 0
 LaidOn source tree state out k n =
-    Laid (now (source .entry)) (now (tree .entry)) (now (state .entry)) (now (out .entry)) k n (now (state .exit)) (now (out .exit))
+    let src = now (source .entry) in let list = now (tree .entry) in
+    Laid src list (now (state .entry)) (now (out .entry)) (layoutOf src list k) n (now (state .exit)) (now (out .exit))
+
+abbrev pub WholeOn : Loan → Loan → Loan → Loan → ℕ → Type 0
+WholeOn source tree state out n =
+    let src = now (source .entry) in let list = now (tree .entry) in
+    Laid src list (now (state .entry)) (now (out .entry)) (wholeOf src list) n (now (state .exit)) (now (out .exit))

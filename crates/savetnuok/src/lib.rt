@@ -3,6 +3,7 @@
 use entry::checks::opening;
 use entry::engine::record;
 use entry::state::fresh;
+use format::runs::lay_out;
 use format::runs::run;
 use meaning::answer::Answer;
 use meaning::answer::Refusal;
@@ -16,7 +17,7 @@ use words::word::word;
 ghost use mathlib.Core.Path.{_≡_};
 ghost use mathlib.Core.Bool.{false};
 ghost use Rattle.queue.specs.Run.{isRefused};
-ghost use Rattle.savetnuok.specs.Exported.{thenShape, Opened, CalledOn, LaidOn};
+ghost use Rattle.savetnuok.specs.Exported.{thenShape, Opened, CalledOn, LaidOn, WholeOn};
 
 // What is answered where the shape is wrong: 1, 2, 3, 7, else 5 at place 8,192.
 fn misshapen(a: Answer) -> Answer
@@ -93,6 +94,30 @@ pub extern "C" fn savetnuok_run(
     if shaped(state, out.len()) {
         let indent = word(state, 4);
         let step = run(source, tree, out, read_state(state), RecordNo(node));
+        let answer = step.answer;
+        if refused(answer) {
+            return packed(answer, indent);
+        }
+        let s = step.state;
+        write_state(state, s);
+        return 0;
+    }
+    packed(misshapen(opening(source, tree)), 0)
+}
+
+// A whole layout of the script whose body is record 0, on the lent state and buffer. Refused, it leaves what a refused run leaves.
+#[no_mangle]
+pub extern "C" fn savetnuok_layout(
+    source: &[u8],
+    tree: &[u8],
+    state: &mut [u8],
+    out: &mut [u8],
+) -> u64
+    ensures { λ r. ⌜ WholeOn source tree state out r ⌝ }
+{
+    if shaped(state, out.len()) {
+        let indent = word(state, 4);
+        let step = lay_out(source, tree, out, read_state(state));
         let answer = step.answer;
         if refused(answer) {
             return packed(answer, indent);

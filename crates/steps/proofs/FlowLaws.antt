@@ -35,7 +35,8 @@ module _ {x : Script} where
   or-refused f r {k} (At j) q a b = rw (← found-same q) (made.nothing-then a b)
   or-refused f r None q a b = made.behind-refusal a b
 
-  got : (t : Stream → Took) (f : RecordNo → Plan) {s s′ : Stream} {w w′ q b : List ℕ} {k : RecordNo} {e : Engine} → Got (t s) s w w′ k s′ → Makes x (f k) (engine w′ q b) e → Goes x (λ s. given (t s) f (notMet s)) s (engine w q b) e s′
+  -- however it was to be taken
+  pub got : (t : Stream → Took) (f : RecordNo → Plan) {s s′ : Stream} {w w′ q b : List ℕ} {k : RecordNo} {e : Engine} → Got (t s) s w w′ k s′ → Makes x (f k) (engine w′ q b) e → Goes x (λ s. given (t s) f (notMet s)) s (engine w q b) e s′
   got t f {s} {q = q} {b = b} g h = record { ran = or-refused f _ (t s .found) (g .ate .found) (g .ran .ran x q b) h; at = g .ate .rest }
 
   pub pumped : (f : RecordNo → Plan) {s s′ : Stream} {w w′ q b : List ℕ} {k : RecordNo} {e : Engine} → Got (takeAny s) s w w′ k s′ → Makes x (f k) (engine w′ q b) e → Goes x (pump f) s (engine w q b) e s′

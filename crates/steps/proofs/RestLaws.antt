@@ -1,5 +1,5 @@
 -- Laws of a token that may be missing. Assumes nothing.
-use Rattle.text.proofs.Base.{_≡_, refl, ap, subst, Bool, true, false, cond, List, ℕ, _≤_, _<_, arith, eqb, ltb, lt-ltb, le-ltb, eq-eqb, ne-eqb}
+use Rattle.text.proofs.Base.{_≡_, refl, ap, subst, Bool, true, false, cond, _||_, List, ℕ, _≤_, _<_, arith, eqb, ltb, lt-ltb, le-ltb, eq-eqb, ne-eqb}
 use Rattle.tree.specs.{declared.record.Record.Record, declared.record.RecordNo.RecordNo}
 use Rattle.tree.proofs.Laws.{found-is, found-not}
 use Rattle.kinds.specs.Facts.{byteOf}
@@ -11,7 +11,8 @@ use Rattle.steps.specs.declared.remaining.Mark.{Mark}
 use Rattle.steps.specs.declared.remaining.Remaining as code
 use Rattle.steps.specs.Stream.{Stream, no, isByte, isSome, nextIs, takeIf, Ate}
 use Rattle.steps.specs.Flow.{flow, write, ignored, notMet, Goes}
-use Rattle.steps.specs.Remaining.{Remaining, Fresh, Missing, Present, tokenOf, literalOf, isMark, fmt, ignore, says, second, restIf, remaining}
+use Rattle.steps.specs.Remaining.{Remaining, Fresh, Missing, Present, tokenOf, literalOf, isMark, fmt, ignore, says, isPresent, writeIf, writeOnlyIf}
+use Rattle.steps.specs.Remaining.{second, restIf, remaining}
 use Rattle.steps.specs.Remaining.{putRemaining, remainingOf, Rests, RestsWith}
 use Rattle.steps.proofs.StreamLaws.{some-is, some-not}
 
@@ -48,6 +49,15 @@ module _ (m : Mark) (r : code.Remaining) where
       go true = refl
       go false = refl
 
+  pub is-there : ltb (r .0) 8192 ≡ isPresent (remainingOf m r)
+  unfolding isPresent remainingOf
+  is-there = go (ltb (r .0) 8192) (eqb (r .0) 8192)
+    where
+      go : (t u : Bool) → t ≡ isPresent (cond t (Present (no (r .0))) (cond u (Missing m) Fresh))
+      go true u = refl
+      go false true = refl
+      go false false = refl
+
 -- ---- what is done with it
 
 module _ {x : Script} (m : Mark) (r : code.Remaining) where
@@ -74,6 +84,28 @@ module _ {x : Script} (m : Mark) (r : code.Remaining) where
       go : (t : Bool) → Makes x (ignore (cond t (Missing m) Fresh)) e e
       go true = made.nothing-made
       go false = made.nothing-made
+
+module _ {x : Script} (r : Remaining) where
+  pub if-needed : {t : Bool} {e e′ : Engine} → t ≡ true → Makes x (fmt r) e e′ → Makes x (writeIf t r) e e′
+  unfolding writeIf
+  if-needed h a = rw h a
+
+  module _ {t u : Bool} (h : t ≡ false) (q : u ≡ isPresent r) where
+    pub if-present : {e e′ : Engine} → u ≡ true → Makes x (fmt r) e e′ → Makes x (writeIf t r) e e′
+    unfolding writeIf
+    if-present g a = rw (h, ← q, g) a
+
+    pub if-neither : {e : Engine} → u ≡ false → Makes x (writeIf t r) e e
+    unfolding writeIf
+    if-neither g = rw (h, ← q, g) made.nothing-made
+
+  pub only-yes : {t : Bool} {e e′ : Engine} → t ≡ true → Makes x (fmt r) e e′ → Makes x (writeOnlyIf t r) e e′
+  unfolding writeOnlyIf
+  only-yes h a = rw h a
+
+  pub only-no : {t : Bool} {e e′ : Engine} → t ≡ false → Makes x (ignore r) e e′ → Makes x (writeOnlyIf t r) e e′
+  unfolding writeOnlyIf
+  only-no h a = rw h a
 
 -- ---- taking one
 

@@ -12,6 +12,14 @@ module _ {x : Script} (p q : Plan) {t u : Bool} (e : t ≡ u) {a b : Engine} whe
   pub if-not : t ≡ false → Makes x q a b → Makes x (cond u p q) a b
   if-not h g = rw (← e, h) g
 
+-- one step or another
+module _ {S T : Type 0} {x : Script} (f g : S → Flow T) {t u : Bool} (e : t ≡ u) {s : S} {a b : Engine} {s′ : T} where
+  pub step-so : t ≡ true → Goes x f s a b s′ → Goes x (cond u f g) s a b s′
+  step-so h y = rw (← e, h) y
+
+  pub step-not : t ≡ false → Goes x g s a b s′ → Goes x (cond u f g) s a b s′
+  step-not h y = rw (← e, h) y
+
 module _ {T : Type 0} {x : Script} (want : ℕ → Bool) (f g : Stream → Flow T) {s : Stream} {t : Bool} (e : t ≡ nextIs want s) {a b : Engine} {s′ : T} where
   pub next-so : t ≡ true → Goes x f s a b s′ → Goes x (ifNext want f g) s a b s′
   unfolding ifNext

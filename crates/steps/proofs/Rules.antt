@@ -22,10 +22,10 @@ pub use Rattle.steps.specs.Remaining.{Remaining}
 pub use Rattle.steps.specs.Items.{Few, Zero, One, Many, fewOf, more, Place, place, suffix}
 unfoldable pub use Rattle.steps.specs.Items.{turn, listed, list}
 pub use Rattle.steps.proofs.StreamLaws.{next-at, next-none}
-pub use Rattle.steps.proofs.FlowLaws.{_▹_, steady, kept-length, pumped, expected, eaten, eaten-not, parsed}
+pub use Rattle.steps.proofs.FlowLaws.{_▹_, steady, kept-length, got, pumped, expected, eaten, eaten-not, parsed}
 pub use Rattle.steps.proofs.LoopLaws.{Falls, Going, starts, goes-on, done, falls}
-pub use Rattle.steps.proofs.TakeLaws.{Takes, Leaves, pump-takes, pump-leaves, expect-leaves, put-leaves, plain-leaves, next-leaves, _takes-then_, _leaves-then_, plain-takes, pump-falls, pump-then-falls}
+pub use Rattle.steps.proofs.TakeLaws.{Takes, Leaves, pump-takes, pump-leaves, expect-takes, expect-leaves, put-leaves, plain-leaves, next-leaves, _takes-then_, _leaves-then_, plain-takes, taking-falls, pump-falls, pump-then-falls}
 pub use Rattle.steps.proofs.SeenLaws.{Seeing, Each, none-seen, next-seen, seen-less, all-seen, last-done}
 pub use Rattle.steps.proofs.RestLaws.{rests-with, rest-then}
 pub use Rattle.steps.proofs.ItemLaws.{Counting, Listing, none-counted, no-item, next-turn, turn-less, turn-falls, next-item, item-less, next-counted, counted, items-done, listed-all}
-pub use Rattle.steps.proofs.RuleLaws.{if-so, if-not, next-so, next-not, kind-is, kind-other, either-first, either-second}
+pub use Rattle.steps.proofs.RuleLaws.{if-so, if-not, step-so, step-not, next-so, next-not, kind-is, kind-other, either-first, either-second}

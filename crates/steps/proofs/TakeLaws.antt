@@ -38,6 +38,14 @@ pub pump-leaves : (rule : RecordNo → Plan) → Leaves (pump rule)
 unfolding pump takeIf
 pump-leaves rule = record { most = λ s. take-le (λ k. true) (s .node) (s .left) }
 
+pub expect-takes : (rs : List Record) (b : ℕ) (rule : RecordNo → Plan) → Takes (isByte rs b) (expectByte rs b rule)
+unfolding expectByte takeIf
+expect-takes rs b rule = record { less = λ s h. go (s .node) (s .left) h }
+  where
+    go : (n : RecordNo) (ks : List ℕ) → nextIn (isByte rs b) ks ≡ true → length (takeIn (isByte rs b) n ks .rest .left) < length ks
+    go n [] h = let z : _≡_ {A = ℕ} 0 1 = cc in absurd (omega arith)
+    go n (k ∷ ks) h = rw h (omega arith)
+
 pub expect-leaves : (rs : List Record) (b : ℕ) (rule : RecordNo → Plan) → Leaves (expectByte rs b rule)
 unfolding expectByte takeIf
 expect-leaves rs b rule = record { most = λ s. take-le (isByte rs b) (s .node) (s .left) }

@@ -1,7 +1,7 @@
 -- A token that may be missing: `remaining` takes none or one, and it is written, or its literal is, or it is passed over. Assumes nothing.
 use mathlib.Core.Path.{_≡_}
 use Prim.Native.Nat.{ℕ}
-use mathlib.Core.Bool.{Bool, true, false, cond}
+use mathlib.Core.Bool.{Bool, true, false, cond, _||_}
 use mathlib.Core.List.{List}
 use lib.Dec.{eqb, ltb}
 use denote.Ref.{now}
@@ -65,6 +65,19 @@ unfoldable pub says : Remaining → Bool
 says Fresh = false
 says (Missing m) = true
 says (Present k) = true
+
+unfoldable pub isPresent : Remaining → Bool
+isPresent Fresh = false
+isPresent (Missing m) = false
+isPresent (Present k) = true
+
+-- written if it is needed or there
+unfoldable pub writeIf : Bool → Remaining → Plan
+writeIf needed r = cond (needed || isPresent r) (fmt r) nothing
+
+-- `fmt` for yes, `ignore` for no
+unfoldable pub writeOnlyIf : Bool → Remaining → Plan
+writeOnlyIf wanted r = cond wanted (fmt r) (ignore r)
 
 -- ---- taking one
 

@@ -17,7 +17,8 @@ ghost use Rattle.kinds.specs.Facts.{byteOf};
 ghost use Rattle.queue.specs.Loans.{Made, Refused};
 ghost use Rattle.steps.specs.Stream.{tree, streamIn};
 ghost use Rattle.steps.specs.Flow.{Walked};
-ghost use Rattle.steps.specs.Remaining.{tokenOf, literalOf, second, fmt as written, ignore, says, remainingOf, putRemaining, Rested, Tells, MadeOf};
+ghost use Rattle.steps.specs.Remaining.{tokenOf, literalOf, second, fmt as written, ignore, says, isPresent, writeIf, writeOnlyIf};
+ghost use Rattle.steps.specs.Remaining.{remainingOf, putRemaining, Rested, Tells, MadeOf};
 
 // The tokens that format.rs lets be missing.
 pub enum Mark {
@@ -124,6 +125,55 @@ pub fn pass(
     if r.0 < 8192 {
         ignore(src, table, fmt, queue, out, RecordNo(r.0));
     }
+}
+
+// The token is there.
+pub fn is_present(r: Remaining) -> bool
+    ensures { λ t. ⌜ Tells isPresent r t ⌝ }
+{
+    r.0 < 8192
+}
+
+// Written if it is needed or there.
+pub fn write_if(
+    src: &[u8],
+    table: &[u32],
+    fmt: &mut Formatter,
+    queue: &mut Queue,
+    out: &mut [u8],
+    r: Remaining,
+    mark: Mark,
+    needed: bool,
+)
+    ensures { λ _. ⌜ Made src table fmt queue out (writeIf needed (remainingOf mark r)) ⌝ }
+{
+    if needed {
+        put(src, table, fmt, queue, out, r, mark);
+        return;
+    }
+    if is_present(r) {
+        put(src, table, fmt, queue, out, r, mark);
+    }
+}
+
+// `put` for yes, `pass` for no.
+pub fn write_only_if(
+    src: &[u8],
+    table: &[u32],
+    fmt: &mut Formatter,
+    queue: &mut Queue,
+    out: &mut [u8],
+    r: Remaining,
+    mark: Mark,
+    wanted: bool,
+)
+    ensures { λ _. ⌜ Made src table fmt queue out (writeOnlyIf wanted (remainingOf mark r)) ⌝ }
+{
+    if wanted {
+        put(src, table, fmt, queue, out, r, mark);
+        return;
+    }
+    pass(src, table, fmt, queue, out, r);
 }
 
 // `p.remaining(fmt, K)?.fmt(fmt)?`.

@@ -16,7 +16,7 @@ use Rattle.text.specs.declared.source.Checked.the-variants as source
 use Rattle.text.specs.Span.{textOf, joined}
 use Rattle.unicode.specs.Utf8.{formed}
 use Rattle.text.specs.Source.{ofFormed, checked}
-use Rattle.text.specs.Chars.{edge, starts, inSource, chars, dark, counted}
+use Rattle.text.specs.Chars.{edge, starts, inSource}
 use Rattle.text.specs.Lines.{trim, newlines}
 use Rattle.text.specs.Delete.{delete, Blank, Blanks}
 use Rattle.unicode.proofs.Bools.{and-l, and-r, le-or-lt}
@@ -86,17 +86,6 @@ joined-in s a b h k = record {
   where
     on : {p q : ℕ} → p ≡ q → starts q s ≡ true → starts p s ≡ true
     on e o = ap (λ (p : ℕ). starts p s) e ∙ o
-
--- ---- the count
-
--- "more than n" of the count is "more than n" of the characters
-pub counted-over : (n : ℕ) (s : List ℕ) → ltb n (counted n s) ≡ ltb n (dark (chars s))
-unfolding counted
-counted-over n s = go (ltb n (dark (chars s))) refl
-  where
-    go : (t : Bool) → ltb n (dark (chars s)) ≡ t → ltb n (min (suc n) (dark (chars s))) ≡ t
-    go true e = let l = ltb-true n (dark (chars s)) e in rw (min-eq-left l) (lt-ltb n (suc n) (omega arith))
-    go false e = le-ltb n (min (suc n) (dark (chars s))) (omega (arith, ltb-false n (dark (chars s)) e, min-le-right (suc n) (dark (chars s))))
 
 -- ---- newlines and trimming
 

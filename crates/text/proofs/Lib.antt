@@ -1,7 +1,6 @@
 pub mod Base
 mod SpanLaws
-mod CharLaws
-mod CountLaws
+pub mod CharLaws
 mod LineLaws
 mod FormedLaws
 mod DeleteLaws

@@ -1,5 +1,5 @@
--- Characters of a text: where they start, their code points, how many are outside White_Space. Assumes nothing.
-use Prim.Native.Nat.{ℕ, zero, suc, pred, _+_, _*_, _%_, min}
+-- Characters of a text: where they start, and their code points. Assumes nothing.
+use Prim.Native.Nat.{ℕ, zero, suc, pred, _+_, _*_, _%_}
 use mathlib.Core.Bool.{Bool, true, false, cond, not, _&&_}
 use mathlib.Core.List.{List, [], _∷_}
 use lib.ListN.{length, getD}
@@ -7,7 +7,6 @@ use lib.Dec.{leb, ltb}
 use Rattle.text.specs.declared.span.Span.{Span}
 use Rattle.text.specs.declared.chars.Char.{Char}
 use Rattle.unicode.specs.Utf8.{cont, inRange, charLen}
-use Rattle.unicode.specs.White.{isWhite}
 
 -- ---- boundaries
 
@@ -60,14 +59,3 @@ stepOf (suc n) = suc n
 
 abbrev pub charAt : List ℕ → Char
 charAt s = record { code = code (charLen s) s; len = stepOf (charLen s) }
-
--- ---- the count
-
--- how many code points are outside White_Space
-unfoldable pub dark : List ℕ → ℕ
-dark [] = 0
-dark (c ∷ cs) = cond (isWhite c) (dark cs) (suc (dark cs))
-
--- characters of a text outside White_Space, counted up to one above the limit
-unfoldable pub counted : ℕ → List ℕ → ℕ
-counted limit s = min (suc limit) (dark (chars s))

@@ -3,4 +3,3 @@ pub mod Source
 pub mod Chars
 pub mod Lines
 pub mod Delete
-pub mod Walk

@@ -9,7 +9,7 @@ use native.Mathlib.Numerals.{add-one}
 use native.Mathlib.Omega.{arith}
 use lib.Dec.{ltb}
 use borrow.Author.Tests.{lt-ltb, le-ltb}
-use lib.ListN.{length, take, drop, length-drop, drop-of-length-le}
+use lib.ListN.{length, take, drop, length-take, length-drop, drop-of-length-le}
 use lib.Seq.{drop-cons, drop-drop, drop-length, take-nil, take-all}
 use Rattle.tree.specs.declared.record.RecordNo.{RecordNo}
 use Rattle.tree.specs.declared.record.Record.{Record}
@@ -120,6 +120,26 @@ module _ (rs : List Record) (at end : ℕ) (h : at < end) (l : at < length rs) w
   shown-cons =
       let q : end - at ≡ suc (end - suc at) = omega arith in
       rw (q, first-split) (ap (at ∷_) (siblings-skip below (suc at) (take (end - suc at) (drop (suc at) rs)) ∙ rw (drop-take, drop-drop) meet))
+
+-- no more are shown than there are, and no more are kept than are shown
+siblings-few : (k i : ℕ) (rs : List Record) → length (siblings k i rs) ≤ length rs
+unfolding siblings
+siblings-few k i [] = omega arith
+siblings-few (suc k) i (r ∷ rs) = omega (arith, siblings-few k (suc i) rs)
+siblings-few zero i (r ∷ rs) = omega (arith, siblings-few (r .below) (suc i) rs)
+
+pub shown-few : (rs : List Record) (c : Cursor) → length (shown rs c) ≤ length rs
+unfolding shown
+shown-few rs c = omega (arith, siblings-few 0 (c .at .0) (take (c .end .0 - c .at .0) (drop (c .at .0) rs)), length-take (c .end .0 - c .at .0) (drop (c .at .0) rs), length-drop (c .at .0) rs)
+
+pub kept-few : (rs : List Record) (ks : List ℕ) → length (kept rs ks) ≤ length ks
+unfolding kept
+kept-few rs [] = omega arith
+kept-few rs (k ∷ ks) = go (passes (nodeOf rs k)) (kept-few rs ks)
+  where
+    go : (t : Bool) → length (kept rs ks) ≤ length ks → length (cond t (kept rs ks) (k ∷ kept rs ks)) ≤ suc (length ks)
+    go true l = omega arith
+    go false l = omega arith
 
 -- ---- the cursor's answers
 

@@ -1,7 +1,8 @@
 -- What callers may rely on, one law each: nobody above unfolds a definition of this crate. Assumes nothing.
 use mathlib.Core.Path.{_≡_, sym, ap, _∙_}
-use mathlib.Core.List.{List, [], _++_}
+use mathlib.Core.List.{List, [], _∷_, _++_}
 use Prim.Native.Nat.{ℕ, _*_, _≤_, _<_}
+use native.Mathlib.Omega.{arith}
 use lib.ListN.{length, take, drop}
 use Rattle.tree.specs.declared.record.RecordNo.{RecordNo}
 use Rattle.tree.specs.declared.record.Record.{Record}
@@ -9,7 +10,7 @@ use Rattle.tree.specs.declared.cursor.Cursor.{Cursor}
 use Rattle.tree.specs.declared.cursor.Found.the-variants.{At, None}
 use Rattle.tree.specs.Records.{records}
 use Rattle.tree.specs.Table.{wordsOf, fitting, treeOf, Decoded}
-use Rattle.tree.specs.Cursor.{foundOf, shown, kept, behind, firstOf, peekOf}
+use Rattle.tree.specs.Cursor.{foundOf, shown, kept, behind, cursorOf, firstOf, peekOf}
 use Rattle.tree.specs.Nodes.{FirstAt, PeekAt}
 use Rattle.tree.proofs.RecordLaws as record-laws
 use Rattle.tree.proofs.TableLaws as table-laws
@@ -66,3 +67,11 @@ found-not h = cursor-laws.found-not h
 -- a cursor at its end shows nothing
 pub shown-past : (rs : List Record) (c : Cursor) → c .end .0 ≤ c .at .0 → shown rs c ≡ []
 shown-past rs c h = cursor-laws.shown-past rs c h
+
+-- else its first record, and the rest behind that one
+pub shown-next : (rs : List Record) (at end : ℕ) → at < end → at < length rs → shown rs (cursorOf at end) ≡ at ∷ shown rs (cursorOf (behind rs at) end)
+shown-next rs at end h l = cursor-laws.shown-cons rs at end h l
+
+-- and of the records that it shows, it keeps no more than the tree has
+pub kept-few : (rs : List Record) (c : Cursor) → length (kept rs (shown rs c)) ≤ length rs
+kept-few rs c = omega (arith, cursor-laws.kept-few rs (shown rs c), cursor-laws.shown-few rs c)

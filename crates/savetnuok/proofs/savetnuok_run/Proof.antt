@@ -1,5 +1,8 @@
 -- `savetnuok::savetnuok_run` meets its contract. Assumes nothing.
 use Rattle.savetnuok.proofs.ExportLaws.{run-done, run-len, run-misshapen, run-refused, shape-sized}
+use Rattle.meaning.specs.Opening.{scriptIn}
+use Rattle.format.proofs.TameExprs.{layout-tame}
+use Rattle.savetnuok.specs.Exported.{layoutOf}
 use borrow.Author.Needs.{needs}
 use native.Mathlib.Omega.{arith}
 use Rattle.savetnuok.proofs.savetnuok_run.Statement.{statement}
@@ -16,7 +19,7 @@ returns c =
     let engine = c .before .before .before .before .before in
     let good = engine .before .before .before .before .before .before in
     let start = good .before .before .before .before .before .before .before in
-    run-refused (start .args .source .now) (start .args .tree .now) (start .args .state .now) (start .args .out .now) (start .args .node)
+    run-refused (start .args .source .now) (start .args .tree .now) (start .args .state .now) (start .args .out .now) (layoutOf (start .args .source .now) (start .args .tree .now) (start .args .node)) (layout-tame (scriptIn (start .args .source .now) (start .args .tree .now)) (record { 0 = start .args .node }))
     (good .before .shaped .ensures) (good .if1 .taken) (engine .before .read-state .ensures .0) (engine .before .read-state .ensures .1) (engine .run .ensures)
     (c .before .before .refused .ensures) (c .before .if2 .taken) (engine .before .before .before .before .word .ensures) (c .packed .ensures)
 
@@ -26,7 +29,7 @@ write-state-requires c κs =
     let good = engine .before .before .before .before .before .before in
     let start = good .before .before .before .before .before .before .before in (
       shape-sized _ _ (good .before .shaped .ensures) (good .if1 .taken),
-      run-len (start .args .source .now) (start .args .tree .now) (start .args .state .now) (start .args .out .now) (start .args .node)
+      run-len (start .args .source .now) (start .args .tree .now) (start .args .state .now) (start .args .out .now) (layoutOf (start .args .source .now) (start .args .tree .now) (start .args .node)) (layout-tame (scriptIn (start .args .source .now) (start .args .tree .now)) (record { 0 = start .args .node }))
           (good .before .shaped .ensures) (good .if1 .taken) (engine .before .read-state .ensures .0) (engine .before .read-state .ensures .1) (engine .run .ensures)
           (c .before .before .before .refused .ensures) (c .before .before .if2 .left),
     )
@@ -36,14 +39,14 @@ returns-2 c =
     let engine = c .before .before .before .before .before .before .before .before .before in
     let good = engine .before .before .before .before .before .before in
     let start = good .before .before .before .before .before .before .before in
-    run-done (start .args .source .now) (start .args .tree .now) (start .args .state .now) (start .args .out .now) (start .args .node)
+    run-done (start .args .source .now) (start .args .tree .now) (start .args .state .now) (start .args .out .now) (layoutOf (start .args .source .now) (start .args .tree .now) (start .args .node)) (layout-tame (scriptIn (start .args .source .now) (start .args .tree .now)) (record { 0 = start .args .node }))
     (good .before .shaped .ensures) (good .if1 .taken) (engine .before .read-state .ensures .0) (engine .before .read-state .ensures .1) (engine .run .ensures)
     (c .before .before .before .before .before .before .refused .ensures) (c .before .before .before .before .before .if2 .left) (engine .run .kept .1 .1 .0) (c .before .before .write-state .ensures)
 
 returns-3 : tie.Need-returns-3
 returns-3 c =
     let start = c .before .before .before .before .before .before .before .before .before .before in
-    run-misshapen (start .args .source .now) (start .args .tree .now) (start .args .state .now) (start .args .out .now) (start .args .node)
+    run-misshapen (start .args .source .now) (start .args .tree .now) (start .args .state .now) (start .args .out .now) (layoutOf (start .args .source .now) (start .args .tree .now) (start .args .node)) (layout-tame (scriptIn (start .args .source .now) (start .args .tree .now)) (record { 0 = start .args .node }))
     (c .before .before .before .before .shaped .ensures) (c .before .before .before .if1 .left) (c .before .before .opening .ensures) (c .before .misshapen .ensures) (c .packed2 .ensures)
 
 pub savetnuok-run-spec : {M : Type 1} → statement M

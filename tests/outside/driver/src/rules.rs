@@ -8,12 +8,26 @@ use oracle::refusal::Refusal;
 use oracle::state::State;
 use oracle::Diagnostics;
 
-/// The kinds that have a rule, as the header lists them. The oracle has more: a run
-/// on one of those is refusal 9 here, as on any other kind.
-pub const KINDS: [(u8, &str); 15] = [
+/// The kinds that have a rule, as the header lists them.
+pub const KINDS: [(u8, &str); 60] = [
+    (0x80, "block_body"),
+    (0x81, "block"),
+    (0x90, "item"),
+    (0x91, "item_semi"),
+    (0x92, "const_stmt"),
+    (0x93, "const_semi"),
+    (0x94, "local"),
+    (0x95, "local_semi"),
+    (0x96, "expr"),
+    (0x97, "expr_semi"),
     (0x98, "item_struct"),
     (0x99, "item_enum"),
+    (0x9A, "item_fn"),
     (0x9B, "item_use"),
+    (0x9C, "item_impl"),
+    (0x9D, "item_mod"),
+    (0x9E, "item_file_mod"),
+    (0x9F, "item_const"),
     (0xA0, "item_use_path"),
     (0xA1, "item_use_group"),
     (0xA2, "variant"),
@@ -26,6 +40,36 @@ pub const KINDS: [(u8, &str); 15] = [
     (0xB3, "pat_array"),
     (0xB4, "pat_tuple"),
     (0xB5, "pat_object"),
+    (0xC0, "lit"),
+    (0xC1, "template"),
+    (0xC2, "expr_assign"),
+    (0xC3, "expr_array"),
+    (0xC4, "expr_tuple"),
+    (0xC5, "expr_object"),
+    (0xC6, "expr_binary"),
+    (0xC8, "expr_unary"),
+    (0xC9, "expr_group"),
+    (0xCA, "expr_empty_group"),
+    (0xCB, "expr_if"),
+    (0xCE, "condition"),
+    (0xCF, "expr_while"),
+    (0xD0, "expr_loop"),
+    (0xD1, "expr_for"),
+    (0xD2, "expr_break"),
+    (0xD3, "expr_continue"),
+    (0xD4, "expr_return"),
+    (0xD5, "expr_yield"),
+    (0xD6, "expr_select"),
+    (0xD8, "expr_match"),
+    (0xDA, "range_full"),
+    (0xDB, "range_from"),
+    (0xDC, "range_to"),
+    (0xDD, "range_to_incl"),
+    (0xDE, "range"),
+    (0xDF, "range_incl"),
+    (0xE0, "expr_closure"),
+    (0xE2, "expr_chain"),
+    (0xE6, "expr_call"),
 ];
 
 pub fn name(kind: u8) -> Option<&'static str> {

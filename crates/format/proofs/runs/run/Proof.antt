@@ -13,7 +13,7 @@ returns c =
     let at-opening = at-started .before in let at-decode = at-opening .before .before .before .before in
     let start = at-decode .before .before .before .before .before in
     serve-run (start .args .source .now) (start .args .tree .now) (replicate 32768 0) _ (at-decode .decode .result) (at-decode .decode .ensures) (length-replicate {A = ℕ} 32768 0) (start .args .s) (start .args .out .now)
-    (at-opening .opening .ensures) _ (at-started .started .ensures) (at-lent .lent .ensures) (at-stops .stops .ensures) (λ (rs : List Record). layout rs (start .args .k)) (at-first .first .ensures) (at-layout .layout .ensures) (c .before .before .ended .ensures)
+    (at-opening .opening .ensures) _ (at-started .started .ensures) (at-lent .lent .ensures) (at-stops .stops .ensures) (λ (rs : List Record). layout (record { source = start .args .source .now; tree = rs }) (start .args .k)) (at-first .first .ensures) (at-layout .layout .ensures) (c .before .before .ended .ensures)
 
 pub run-spec : {M : Type 1} → statement M
 run-spec =

@@ -1,0 +1,7 @@
+mod LayLaws
+mod TakenLaws
+mod ListLaws
+mod ArmLaws
+mod ChainLaws
+mod StmtLaws
+mod Ranks

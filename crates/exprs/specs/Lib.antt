@@ -1,0 +1,9 @@
+pub mod Rule
+pub mod Operand
+pub mod List
+pub mod Control
+pub mod Arms
+pub mod Chain
+pub mod Block
+pub mod Item
+pub mod Lay

@@ -1,0 +1,3 @@
+mod ArmLaws
+mod StatementLaws
+pub mod Laws

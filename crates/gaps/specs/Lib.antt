@@ -1,0 +1,4 @@
+pub mod Arms
+pub mod Blocks
+pub mod Lines
+pub mod Statements

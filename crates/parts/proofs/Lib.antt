@@ -1,0 +1,2 @@
+mod LabelLaws
+pub mod Laws

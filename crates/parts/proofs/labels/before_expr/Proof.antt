@@ -1,0 +1,16 @@
+-- `parts::labels::before_expr` meets its contract. Assumes nothing.
+use Rattle.parts.specs.Labels.{beforeExpr}
+use Rattle.steps.proofs.Rules.{_▹_, needs}
+use Rattle.parts.proofs.labels.before_expr.Statement.{statement}
+use Rattle.parts.proofs.labels.before_expr.Tie as tie
+
+returns : tie.Need-returns
+unfolding beforeExpr
+returns c =
+    let at-modifiers = c .before .before .before .before .before .before .before .before .before in
+    let at-pat-attributes = at-modifiers .before .before .before .before .before .before .before in
+    at-pat-attributes .pat-attributes .ensures ▹ at-modifiers .modifiers .ensures ▹ c .before .before .expr-labels .ensures
+
+pub before-expr-spec : {M : Type 1} → statement M
+before-expr-spec =
+    tie.close (tie.spec (λ c κs. search needs) (λ c κs. search needs) (λ c κs. search needs) (λ c. search needs) returns)

@@ -1,0 +1,8 @@
+pub mod Spaced
+pub mod Sorts
+pub mod Labels
+pub mod Args
+pub mod Leads
+pub mod Heads
+pub mod Lone
+pub mod Links

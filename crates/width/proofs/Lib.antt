@@ -1,0 +1,4 @@
+mod CountLaws
+mod PlaceLaws
+pub mod Laws
+mod Cases
