@@ -12,6 +12,7 @@ use Rattle.queue.specs.Loans.{Loan}
 use Rattle.entry.specs.declared.state.Step.{Step}
 use Rattle.entry.specs.Served.{leftOf, callLeft, recordLeft}
 use Rattle.format.specs.Rules.{laidOut}
+use Rattle.format.specs.Whole as format
 use Rattle.engine_mut.specs.declared.Engine.{Engine}
 
 -- the engine with what is handed back in it
@@ -32,7 +33,7 @@ EngineLoan = Both (RefT Engine) (RefT Engine)
 abbrev pub Changed : EngineLoan → Loan → Answer → Result → Type 0
 Changed e out a r = Stored (now (e .entry)) a (now (e .exit)) (now (out .exit)) r
 
--- what the functions by value give: a call, a call record, a run
+-- what the functions by value give: a call, a call record, a run, a whole layout
 abbrev pub called : EngineLoan → Loan → Loan → Loan → Call → Result
 called e source tree out c = callLeft (now (source .entry)) (now (tree .entry)) (now (e .entry) .state) (now (out .entry)) c
 
@@ -41,3 +42,6 @@ recorded e source tree out bytes = recordLeft (now (source .entry)) (now (tree .
 
 abbrev pub laid : EngineLoan → Loan → Loan → Loan → RecordNo → Result
 laid e source tree out k = laidOut (now (source .entry)) (now (tree .entry)) (now (e .entry) .state) (now (out .entry)) k
+
+abbrev pub laidWhole : EngineLoan → Loan → Loan → Loan → Result
+laidWhole e source tree out = format.laidWhole (now (source .entry)) (now (tree .entry)) (now (e .entry) .state) (now (out .entry))

@@ -6,7 +6,7 @@ use meaning::answer::Answer;
 use meaning::call::Call;
 use tree::record::RecordNo;
 ghost use Rattle.entry.specs.Served.{Served, callLeft};
-ghost use Rattle.engine_mut.specs.Stored.{Changed, called, recorded, laid};
+ghost use Rattle.engine_mut.specs.Stored.{Changed, called, recorded, laid, laidWhole};
 
 pub struct Engine {
     pub state: State,
@@ -35,6 +35,15 @@ pub fn run(e: &mut Engine, source: &[u8], tree: &[u8], out: &mut [u8], k: Record
     ensures { λ a. ⌜ Changed e out a (laid e source tree out k) ⌝ }
 {
     let z = format::runs::run(source, tree, out, e.state, k);
+    e.state = z.state;
+    z.answer
+}
+
+// A whole layout.
+pub fn layout(e: &mut Engine, source: &[u8], tree: &[u8], out: &mut [u8]) -> Answer
+    ensures { λ a. ⌜ Changed e out a (laidWhole e source tree out) ⌝ }
+{
+    let z = format::runs::lay_out(source, tree, out, e.state);
     e.state = z.state;
     z.answer
 }
