@@ -13,7 +13,6 @@ use Rattle.queue.specs.Loans.{engine, reads, Makes}
 use Rattle.queue.proofs.MadeLaws.{keeps}
 use Rattle.entry.specs.declared.state.State as code
 use Rattle.entry.specs.Served.{encoded, startedRun}
-use Rattle.format.specs.Rules.{layout}
 use Rattle.bench.specs.Packed.{reachedAs}
 use Rattle.bench.specs.Repeated.{repeated, laidOut, Repeats}
 use Rattle.bench.proofs.HistoryLaws.{starts-fresh}
@@ -40,9 +39,9 @@ one-done {x} {p} {b} {w} {q} {b′} {w₁} {i = i} es er h m g =
       long = keeps m ∙ g .long;
     }
 
-pub all-done : {src tree b w q b′ : List ℕ} {x : Script} {p : Plan} {k times i z : ℕ} → repeated x p times b ≡ laidOut src tree b k times → Repeating x p b w q b′ times i → times ≤ i → z ≡ reachedAs (runOf w .answer) (runOf w .len) → Repeats src tree b k times z b′
+pub all-done : {src tree b w q b′ : List ℕ} {x : Script} {p : Plan} {plan : Script → Plan} {times i z : ℕ} → repeated x p times b ≡ laidOut src tree b plan times → Repeating x p b w q b′ times i → times ≤ i → z ≡ reachedAs (runOf w .answer) (runOf w .len) → Repeats src tree b plan times z b′
 unfolding reads
-all-done {src} {tree} {b} {w} {q} {b′} {x} {p} {k} {times} {i} y g h ez =
+all-done {src} {tree} {b} {w} {q} {b′} {x} {p} {plan} {times} {i} y g h ez =
     let last : i ≡ times = omega (arith, g .within) in
-    let e : reads (engine w q b′) ≡ laidOut src tree b k times = g .same ∙ ap (λ (n : ℕ). repeated x p n b) last ∙ y in
+    let e : reads (engine w q b′) ≡ laidOut src tree b plan times = g .same ∙ ap (λ (n : ℕ). repeated x p n b) last ∙ y in
     record { number = ez ∙ ap (λ (y : Result). reachedAs (y .answer) (y .left .state .len)) e; buffer = ap (λ (y : Result). y .left .buffer) e }

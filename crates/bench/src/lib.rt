@@ -9,6 +9,7 @@ use crate::pack::reached;
 use entry::state::fresh;
 use entry::state::started;
 use format::runs::layout;
+use format::whole::whole;
 use meaning::answer::Answer;
 use tree::record::RecordNo;
 use tree::table::decode;
@@ -20,7 +21,8 @@ ghost use Rattle.meaning.specs.Opening.{opening};
 ghost use Rattle.meaning.specs.Numbers.{seen};
 ghost use Rattle.bench.specs.Packed.{packed, found};
 ghost use Rattle.bench.specs.History.{Replayed};
-ghost use Rattle.bench.specs.Repeated.{Repeats};
+ghost use Rattle.format.specs.Whole.{whole};
+ghost use Rattle.bench.specs.Repeated.{Repeats, onNode};
 
 // The check of UTF-8.
 #[no_mangle]
@@ -70,7 +72,7 @@ pub extern "C" fn bench_runs(
     node: u32,
     times: u32,
 ) -> u64
-    ensures { λ r. ⌜ Repeats (now (source .entry)) (now (tree .entry)) (now (out .entry)) node times r (now (out .exit)) ⌝ }
+    ensures { λ r. ⌜ Repeats (now (source .entry)) (now (tree .entry)) (now (out .entry)) (onNode node) times r (now (out .exit)) ⌝ }
 {
     let mut words = [0u32; 32768];
     let n = decode(tree, &mut words);
@@ -83,6 +85,27 @@ pub extern "C" fn bench_runs(
     while i < times {
         fmt = started(now, Answer::Done);
         layout(source, table, &mut fmt, &mut queue, out, RecordNo(node));
+        i += 1;
+    }
+    reached(&fmt)
+}
+
+// Whole layouts, as the runs.
+#[no_mangle]
+pub extern "C" fn bench_layouts(source: &[u8], tree: &[u8], out: &mut [u8], times: u32) -> u64
+    ensures { λ r. ⌜ Repeats (now (source .entry)) (now (tree .entry)) (now (out .entry)) whole times r (now (out .exit)) ⌝ }
+{
+    let mut words = [0u32; 32768];
+    let n = decode(tree, &mut words);
+    let s = fresh();
+    let now = s.now;
+    let mut queue = s.queue;
+    let mut fmt = started(now, Answer::Done);
+    let table = first(&words, n);
+    let mut i: u32 = 0;
+    while i < times {
+        fmt = started(now, Answer::Done);
+        whole(source, table, &mut fmt, &mut queue, out);
         i += 1;
     }
     reached(&fmt)

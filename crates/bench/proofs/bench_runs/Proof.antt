@@ -7,8 +7,7 @@ use Rattle.tree.specs.declared.record.Record.{Record}
 use Rattle.tree.specs.Table.{treeOf}
 use Rattle.meaning.specs.State.{Script}
 use Rattle.queue.specs.View.{scriptOf}
-use Rattle.format.specs.Rules.{layout}
-use Rattle.bench.specs.Repeated.{repeated}
+use Rattle.bench.specs.Repeated.{repeated, onNode}
 use Rattle.bench.proofs.HistoryLaws.{tree-is}
 use Rattle.bench.proofs.RepeatLaws.{Repeating, none-done, one-done, all-done}
 use borrow.Author.Needs.{needs}
@@ -17,7 +16,7 @@ use Rattle.bench.proofs.bench_runs.Statement.{statement}
 use Rattle.bench.proofs.bench_runs.Tie as tie
 
 abbrev Inv-loop : tie.InvT-loop
-Inv-loop source tree out₀ node times now queue₀ fmt₀ table i₀ out queue fmt i = Repeating (scriptOf source table) (layout (scriptOf source table) (record { 0 = node })) out₀ fmt queue out times i
+Inv-loop source tree out₀ node times now queue₀ fmt₀ table i₀ out queue fmt i = Repeating (scriptOf source table) (onNode node (scriptOf source table)) out₀ fmt queue out times i
 
 abbrev μ-loop : tie.MeasureT-loop
 μ-loop source tree out₀ node times now queue₀ fmt₀ table i₀ out queue fmt i = times - i
@@ -50,7 +49,7 @@ returns c =
     let at-decode = at-first .before .before .before .before .before .before .before in
     let start = at-decode .before .before .before .before .before in
     let k = start .args .node in
-    all-done (ap (λ (rs : List Record). let x : Script = record { source = start .args .source .now; tree = rs } in repeated x (layout x (record { 0 = k })) (start .args .times) (start .args .out .now)) (tree-is (start .args .source .now) (start .args .tree .now) (replicate 32768 0) _ (at-decode .decode .ensures) (length-replicate {A = ℕ} 32768 0) (at-first .first .ensures)))
+    all-done (ap (λ (rs : List Record). let x : Script = record { source = start .args .source .now; tree = rs } in repeated x (onNode k x) (start .args .times) (start .args .out .now)) (tree-is (start .args .source .now) (start .args .tree .now) (replicate 32768 0) _ (at-decode .decode .ensures) (length-replicate {A = ℕ} 32768 0) (at-first .first .ensures)))
     (at-loop .loop .inv) (c .before .before .loop-test .left) (c .reached .ensures)
 
 pub bench-runs-spec : {M : Type 1} → statement M
