@@ -3,3 +3,4 @@ pub mod DecodeLaws
 pub mod ServeLaws
 pub mod Unique
 pub mod RunLaws
+pub mod RoomLaws

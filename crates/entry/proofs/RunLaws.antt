@@ -16,6 +16,7 @@ use Rattle.meaning.specs.{World.result, World.made, Plan.Plan, Plan.nothing, Pl
 use Rattle.meaning.specs.{Plan.putBack, Plan.answerOf, Plan.ready, Plan.run, Lent.anyOutside, Lent.lentState, Opening.answerTo, Opening.scriptIn}
 use Rattle.meaning.proofs.Step.{fair}
 use Rattle.queue.proofs.{MadeLaws.keeps, TabLaws.length-tab}
+use Rattle.entry.specs.Room.{Room}
 use Rattle.entry.specs.declared.state.State as code
 use Rattle.entry.specs.{declared.state.Step.Step, Served.startedRun, Served.stateOf, Served.leftOf, Served.checkedAnswer, Served.lentAnswer}
 use Rattle.entry.specs.{Served.lentRun, Served.Served, Ended.endedBuffer, Ended.Ended, Ended.runLeft}
@@ -104,7 +105,7 @@ run-is opening x p {s} b₀ {r} {q} {b} {z} {b′} e l k =
     rw (← e) (back s b₀ b (r .answer) (view r q) z b′ c l (k .step) (k .buffer))
 
 -- the same over the lent bytes: the table is decoded, the checks are made, and the plan runs on what they leave
-module _ (src list words table : List ℕ) (n : RecordNo) (d : Decoded list words (n .0) table) (room : length words ≡ 32768) (s : code.State) (b₀ : List ℕ) {a₀ : Answer} (ea : a₀ ≡ answerTo (opened src list))
+module _ (src list words table : List ℕ) (n : RecordNo) (d : Decoded list words (n .0) table) (room : Room list words) (s : code.State) (b₀ : List ℕ) {a₀ : Answer} (ea : a₀ ≡ answerTo (opened src list))
     {r₀ r₁ : Run} (w : List ℕ) {t : Bool} (e₀ : r₀ ≡ startedRun (s .now) a₀) (e₁ : r₁ ≡ lentRun src (s .queue) (length b₀) r₀) (eg : Readied r₁ (runOf w) t) where
   start : Run
   start = readyRun (lentRun src (s .queue) (length b₀) (startedRun (s .now) a₀))

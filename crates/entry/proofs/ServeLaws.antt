@@ -13,6 +13,7 @@ use Rattle.meaning.specs.{declared.answer.Answer.the-variants.Done, declared.an
 use Rattle.meaning.specs.{CallRecord.decode, Numbers.seen, Numbers.Placed, World.World, World.world, World.Result, World.result, World.call}
 use Rattle.meaning.specs.{World.callRecord, Plan.Plan, Plan.make, Plan.exec, Opening.answerTo, Opening.scriptIn}
 use Rattle.meaning.proofs.Plans.{sticky}
+use Rattle.entry.specs.Room.{Room}
 use Rattle.entry.specs.{declared.state.Small.Small, declared.state.Step.Step, Served.startedRun, Served.stateOf, Served.leftOf, Served.Left}
 use Rattle.entry.specs.{Served.lentAnswer, Served.lentRun, Served.asCall, Served.askedPlan, Served.Served, Served.callLeft, Served.recordLeft}
 use Rattle.entry.specs.declared.state.State as code
@@ -27,13 +28,13 @@ use Rattle.entry.proofs.LentLaws.{lent-call, lent-record}
 stuck : (x y : Script) (p q : Plan) (a : Answer) (w : World) (r : Refusal) → a ≡ Refused r → exec x p (result a w) ≡ exec y q (result a w)
 stuck x y p q a w r e = rw e (sticky x p r w ∙ sym (sticky y q r w))
 
-module _ (src list words table : List ℕ) (n : RecordNo) (d : Decoded list words (n .0) table) (room : length words ≡ 32768) (p : List Record → Plan) where
+module _ (src list words table : List ℕ) (n : RecordNo) (d : Decoded list words (n .0) table) (room : Room list words) (p : List Record → Plan) where
   -- a plan may hang on the tree; a result whose answer is opening's, or a refusal behind it
   pub either-script : (o : Opening) → opened src list ≡ o → (a : Answer) (w : World) → ((r : Refusal) → answerTo o ≡ Refused r → a ≡ Refused r)
       → exec (scriptOf src (take (n .0 * 4) table)) (p (treeOf (take (n .0 * 4) table))) (result a w) ≡ exec (scriptIn src list) (p (records list)) (result a w)
   either-script (opening.Good m) e a w h =
       let g = open-good e in
-      let k = table-whole d (g .tree .few) (omega (arith, g .tree .few)) in
+      let k = table-whole d (g .tree .few) (room (g .tree .few)) in
       rw (k .1)
   either-script opening.SourceLong e a w h = stuck _ _ _ _ a w _ (h _ refl)
   either-script (opening.SourceIll i) e a w h = stuck _ _ _ _ a w _ (h _ refl)
@@ -45,7 +46,7 @@ lent-refused a t4 t5 t6 r e h = rw h
 
 -- ---- what is handed back
 
-module _ (src list words table : List ℕ) (n : RecordNo) (d : Decoded list words (n .0) table) (room : length words ≡ 32768) (s : code.State) (b : List ℕ) {a₀ : Answer} (ea : a₀ ≡ answerTo (opened src list))
+module _ (src list words table : List ℕ) (n : RecordNo) (d : Decoded list words (n .0) table) (room : Room list words) (s : code.State) (b : List ℕ) {a₀ : Answer} (ea : a₀ ≡ answerTo (opened src list))
     {r₀ : Run} (w : List ℕ) (e₀ : r₀ ≡ startedRun (s .now) a₀) (er : runOf w ≡ lentRun src (s .queue) (length b) r₀) {tb : List ℕ} (et : tb ≡ take (n .0 * 4) table) where
   begun : runOf w ≡ lentRun src (s .queue) (length b) (startedRun (s .now) a₀)
   begun = er ∙ ap (lentRun src (s .queue) (length b)) e₀

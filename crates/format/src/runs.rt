@@ -17,6 +17,7 @@ use tree::table::decode;
 use tree::table::first;
 use tree::table::size;
 ghost use Rattle.queue.specs.Loans.{Made, script};
+ghost use Rattle.entry.specs.Room.{Room};
 ghost use Rattle.entry.specs.Served.{Served};
 ghost use Rattle.format.specs.Rules.{layout, laidOut};
 ghost use Rattle.format.specs.Whole.{laidWhole};
@@ -39,32 +40,66 @@ pub fn layout(
     rule(src, table, fmt, queue, out, k);
 }
 
-// A run on node k, over what is lent anew.
-pub fn run(source: &[u8], tree: &[u8], out: &mut [u8], s: State, k: RecordNo) -> Step
+// A tree of so many bytes fits into a table of 2,048 records, which is made in a quarter of the full one's time.
+const SHORT: usize = 18423;
+
+// A run on node k, over what is lent anew and a table with room for the tree.
+fn run_over(
+    words: &mut [u32],
+    source: &[u8],
+    tree: &[u8],
+    out: &mut [u8],
+    s: State,
+    k: RecordNo,
+) -> Step
+    requires { ⌜ Room (now tree) (now words) ⌝ }
     ensures { λ r. ⌜ Served s r (now (out .exit)) (laidOut (now (source .entry)) (now (tree .entry)) s (now (out .entry)) k) ⌝ }
 {
-    let mut words = [0u32; 32768];
-    let n = decode(tree, &mut words);
+    let n = decode(tree, words);
     let mut queue = s.queue;
     let now = s.now;
     let mut fmt = started(now, opening(source, tree));
     lent(source, &mut fmt, &queue, out.len());
     stops(&mut fmt);
-    layout(source, first(&words, n), &mut fmt, &mut queue, out, k);
+    layout(source, first(words, n), &mut fmt, &mut queue, out, k);
     ended(out, s, &fmt, &queue)
 }
 
-// A whole layout, over what is lent anew.
-pub fn lay_out(source: &[u8], tree: &[u8], out: &mut [u8], s: State) -> Step
+// A run on node k.
+pub fn run(source: &[u8], tree: &[u8], out: &mut [u8], s: State, k: RecordNo) -> Step
+    ensures { λ r. ⌜ Served s r (now (out .exit)) (laidOut (now (source .entry)) (now (tree .entry)) s (now (out .entry)) k) ⌝ }
+{
+    if tree.len() <= SHORT {
+        let mut words = [0u32; 8192];
+        return run_over(&mut words, source, tree, out, s, k);
+    }
+    let mut words = [0u32; 32768];
+    run_over(&mut words, source, tree, out, s, k)
+}
+
+// A whole layout, over what is lent anew and a table with room for the tree.
+fn lay_out_over(words: &mut [u32], source: &[u8], tree: &[u8], out: &mut [u8], s: State) -> Step
+    requires { ⌜ Room (now tree) (now words) ⌝ }
     ensures { λ r. ⌜ Served s r (now (out .exit)) (laidWhole (now (source .entry)) (now (tree .entry)) s (now (out .entry))) ⌝ }
 {
-    let mut words = [0u32; 32768];
-    let n = decode(tree, &mut words);
+    let n = decode(tree, words);
     let mut queue = s.queue;
     let now = s.now;
     let mut fmt = started(now, opening(source, tree));
     lent(source, &mut fmt, &queue, out.len());
     stops(&mut fmt);
-    whole(source, first(&words, n), &mut fmt, &mut queue, out);
+    whole(source, first(words, n), &mut fmt, &mut queue, out);
     ended(out, s, &fmt, &queue)
+}
+
+// A whole layout.
+pub fn lay_out(source: &[u8], tree: &[u8], out: &mut [u8], s: State) -> Step
+    ensures { λ r. ⌜ Served s r (now (out .exit)) (laidWhole (now (source .entry)) (now (tree .entry)) s (now (out .entry))) ⌝ }
+{
+    if tree.len() <= SHORT {
+        let mut words = [0u32; 8192];
+        return lay_out_over(&mut words, source, tree, out, s);
+    }
+    let mut words = [0u32; 32768];
+    lay_out_over(&mut words, source, tree, out, s)
 }

@@ -2,7 +2,7 @@
 use Rattle.text.proofs.Base.{ℕ, needs}
 use lib.ListN.{replicate, length-replicate}
 use Rattle.queue.proofs.MadeLaws.{keeps}
-use Rattle.entry.proofs.{ServeLaws.serve-record, engine.record.Statement.statement}
+use Rattle.entry.proofs.{RoomLaws.full-room, ServeLaws.serve-record, engine.record.Statement.statement}
 use Rattle.entry.proofs.engine.record.Tie as tie
 
 same-length : tie.Need-same-length
@@ -16,7 +16,7 @@ returns c =
     let at-decode2 = at-first .before .before in let at-lent = at-decode2 .before in let at-started = at-lent .before .before .before in
     let at-opening = at-started .before in let at-decode = at-opening .before .before .before .before in
     let start = at-decode .before .before .before .before .before .before in
-    serve-record (start .args .source .now) (start .args .tree .now) (replicate 32768 0) _ (at-decode .decode .result) (at-decode .decode .ensures) (length-replicate {A = ℕ} 32768 0) (start .args .s) (start .args .out .now)
+    serve-record (start .args .source .now) (start .args .tree .now) (replicate 32768 0) _ (at-decode .decode .result) (at-decode .decode .ensures) (full-room (start .args .tree .now) (replicate 32768 0) (length-replicate {A = ℕ} 32768 0)) (start .args .s) (start .args .out .now)
     (at-opening .opening .ensures) _ (at-started .started .ensures) (at-lent .lent .ensures) (at-first .first .ensures) (start .args .bytes .now) (at-decode2 .decode2 .result) (at-decode2 .decode2 .ensures) (at-asked .asked .ensures) (c .left .ensures)
 
 pub record-spec : {M : Type 1} → statement M

@@ -1,21 +1,21 @@
 -- `format::runs::lay_out` meets its contract. Assumes nothing.
-use Rattle.steps.proofs.Rules.{ℕ, List, Record, keeps, needs}
+use Rattle.steps.proofs.Rules.{needs, ℕ}
 use lib.ListN.{replicate, length-replicate}
-use Rattle.entry.proofs.RunLaws.{serve-run}
-use Rattle.format.specs.Whole.{whole}
+use Rattle.entry.proofs.RoomLaws.{small-room, full-room}
 use Rattle.format.proofs.runs.lay_out.Statement.{statement}
 use Rattle.format.proofs.runs.lay_out.Tie as tie
 
-returns : tie.Need-returns
-returns c =
-    let at-whole = c .before .before .before .before .before .before .before .before in let at-first = at-whole .before .before .before .before in
-    let at-stops = at-first .before .before in let at-lent = at-stops .before .before in let at-started = at-lent .before .before .before in
-    let at-opening = at-started .before in let at-decode = at-opening .before .before .before .before in
-    let start = at-decode .before .before .before .before .before in
-    serve-run (start .args .source .now) (start .args .tree .now) (replicate 32768 0) _ (at-decode .decode .result) (at-decode .decode .ensures) (length-replicate {A = ℕ} 32768 0) (start .args .s) (start .args .out .now)
-    (at-opening .opening .ensures) _ (at-started .started .ensures) (at-lent .lent .ensures) (at-stops .stops .ensures) (λ (rs : List Record). whole (record { source = start .args .source .now; tree = rs })) (at-first .first .ensures) (at-whole .whole .ensures) (c .before .before .ended .ensures)
+lay-out-over-requires : tie.Need-lay-out-over-requires
+lay-out-over-requires c κs =
+    let start = c .before .before .before .before .before .before in
+    small-room (start .args .tree .now) (replicate 8192 0) (c .before .before .if1 .taken) (length-replicate {A = ℕ} 8192 0)
+
+lay-out-over-requires-2 : tie.Need-lay-out-over-requires-2
+lay-out-over-requires-2 c κs =
+    let start = c .before .before .before .before .before .before in
+    full-room (start .args .tree .now) (replicate 32768 0) (length-replicate {A = ℕ} 32768 0)
 
 pub lay-out-spec : {M : Type 1} → statement M
 lay-out-spec =
-    tie.close (tie.spec (λ c. search needs) (λ c κs. search needs) (λ c κs. search needs) (λ c κs. search needs) (λ c κs. search needs)
-    (λ c κs. search needs) (λ c. search needs) (λ c κs. search needs) (λ c κs. search needs) (λ c κs. search needs) (λ c. search needs) returns)
+    tie.close (tie.spec (λ c. search needs) lay-out-over-requires (λ c. search needs) (λ c. c .before .before .before .lay-out-over .ensures)
+    (λ c. search needs) lay-out-over-requires-2 (λ c. search needs) (λ c. c .before .before .before .lay-out-over2 .ensures))
