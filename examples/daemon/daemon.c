@@ -1,11 +1,14 @@
 /*
- * Lays a script out, as the box's daemon does: opens, replays steps from a file, finishes, and prints the text.
+ * Lays a script out, as the box's daemon does: opens, lays out, and prints the text.
  *
+ *     daemon --layout SCRIPT TREE [ROOM]
  *     daemon SCRIPT TREE RECORDS [ROOM]
  *
- * RECORDS holds call records one behind the other, as include/savetnuok.h lists them; the kind says how long each is.
- * Between them may stand layout runs: a byte E0, which no call record begins with, and the node's number in four bytes.
- * ROOM is the length of the buffer, 1,048,576 where it is not given. Exit status: 0 and the text on standard output; 1
+ * The first lays the whole script out by one call: the box's main job. The second replays steps from a file, and
+ * finishes. RECORDS holds call records one behind the other, as include/savetnuok.h lists them; the kind says how long
+ * each is. Between them may stand layouts, by bytes which no call record begins with: E0 and the node's number in four
+ * bytes is a run on the node, E1 the layout of the whole.
+ * ROOM is the length of the buffer, 1,572,864 where it is not given. Exit status: 0 and the text on standard output; 1
  * and a refusal in words on standard error; 2 where the arguments or the files are at fault.
  */
 #include <errno.h>
@@ -15,14 +18,15 @@
 
 #include "savetnuok.h"
 
-#define ROOM_MOST (1u << 20)
+#define ROOM_MOST SAVETNUOK_LAYOUT_ROOM
 /* One byte more than a source may have, so that the library says what is wrong. */
 #define SCRIPT_MOST (SAVETNUOK_SOURCE_MOST + 1)
 /* Nine times what a good tree can have: longer ones are somebody's mistake. */
 #define TREE_MOST (1u << 20)
 #define RECORDS_MOST (1u << 20)
-/* The first byte of a run, this program's own. */
+/* The first bytes of a run and of a whole layout, this program's own. */
 #define RUN 0xE0
+#define LAYOUT 0xE1
 
 struct bytes {
     uint8_t *at;
@@ -35,7 +39,7 @@ struct engine {
 };
 
 static void usage(void) {
-    fputs("usage: daemon SCRIPT TREE RECORDS [ROOM]\n", stderr);
+    fputs("usage: daemon --layout SCRIPT TREE [ROOM]\n       daemon SCRIPT TREE RECORDS [ROOM]\n", stderr);
     exit(2);
 }
 
@@ -130,6 +134,7 @@ static size_t step_length(struct bytes rest) {
     case SAVETNUOK_WS:
     case SAVETNUOK_FLUSH_PREFIX_COMMENTS:
     case SAVETNUOK_FINISH:
+    case LAYOUT:
         want = 1;
         break;
     default:
@@ -143,15 +148,28 @@ static uint64_t call(struct engine *e, const uint8_t *record, size_t len) {
                           e->out.len, record, len);
 }
 
-static int is_run(struct bytes step) { return step.at[0] == RUN && step.len == 5; }
+static uint64_t run(struct engine *e, uint32_t node) {
+    return savetnuok_run(e->script.at, e->script.len, e->tree.at, e->tree.len, e->state, sizeof e->state, e->out.at,
+                         e->out.len, node);
+}
+
+static uint64_t layout(struct engine *e) {
+    return savetnuok_layout(e->script.at, e->script.len, e->tree.at, e->tree.len, e->state, sizeof e->state, e->out.at,
+                            e->out.len);
+}
 
 /* A cut run is a bad call record, too. */
+static int is_run(struct bytes step) { return step.at[0] == RUN && step.len == 5; }
+
+static int is_layout(struct bytes step) { return step.at[0] == LAYOUT; }
+
 static uint64_t make(struct engine *e, struct bytes step) {
-    if (!is_run(step))
-        return call(e, step.at, step.len);
-    return savetnuok_run(e->script.at, e->script.len, e->tree.at, e->tree.len, e->state, sizeof e->state, e->out.at,
-                         e->out.len, savetnuok_word(step.at + 1));
+    if (is_run(step))
+        return run(e, savetnuok_word(step.at + 1));
+    return is_layout(step) ? layout(e) : call(e, step.at, step.len);
 }
+
+static const char *name_of(struct bytes step) { return is_run(step) ? "run" : is_layout(step) ? "layout" : "call"; }
 
 /* All steps, and a finish if they end without one. */
 static int replay(struct engine *e, struct bytes records) {
@@ -163,7 +181,7 @@ static int replay(struct engine *e, struct bytes records) {
         struct bytes step = {rest.at, step_length(rest)};
         uint64_t answer = make(e, step);
         if (answer != 0) {
-            snprintf(doing, sizeof doing, "%s %lu, at byte %lu of the records", is_run(step) ? "run" : "call", number,
+            snprintf(doing, sizeof doing, "%s %lu, at byte %lu of the records", name_of(step), number,
                      (unsigned long)at);
             explain(answer, doing);
             return 1;
@@ -178,6 +196,14 @@ static int replay(struct engine *e, struct bytes records) {
     return answer != 0;
 }
 
+/* The whole script by one call. */
+static int lay_out(struct engine *e) {
+    uint64_t answer = layout(e);
+    if (answer != 0)
+        explain(answer, "the layout");
+    return answer != 0;
+}
+
 static size_t room_of(const char *text) {
     char *end;
     errno = 0;
@@ -189,20 +215,24 @@ static size_t room_of(const char *text) {
 
 int main(int argc, char **argv) {
     static struct engine e;
+    struct bytes records = {NULL, 0};
+    int whole = argc > 1 && strcmp(argv[1], "--layout") == 0;
+    char **files = argv + 1 + whole;
     if (argc < 4 || argc > 5)
         usage();
     e.out.len = argc == 5 ? room_of(argv[4]) : ROOM_MOST;
     e.out.at = room_for(e.out.len);
-    e.script = read_file(argv[1], SCRIPT_MOST, 1);
-    e.tree = read_file(argv[2], TREE_MOST, 0);
-    struct bytes records = read_file(argv[3], RECORDS_MOST, 0);
+    e.script = read_file(files[0], SCRIPT_MOST, 1);
+    e.tree = read_file(files[1], TREE_MOST, 0);
+    if (!whole)
+        records = read_file(files[2], RECORDS_MOST, 0);
 
     uint64_t answer = savetnuok_open(e.script.at, e.script.len, e.tree.at, e.tree.len, e.state, sizeof e.state);
     int status = answer != 0;
     if (answer != 0)
         explain(answer, "opening");
     else
-        status = replay(&e, records);
+        status = whole ? lay_out(&e) : replay(&e, records);
     if (status == 0) {
         size_t len = savetnuok_word(e.state + SAVETNUOK_STATE_LENGTH);
         if (fwrite(e.out.at, 1, len, stdout) != len || fflush(stdout) != 0)

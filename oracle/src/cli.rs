@@ -35,7 +35,7 @@ const HELP: &str = "oracle COMMAND [--cap N]
   replay calls|runs FILE       a recorded file's steps once more, against what it holds
   bench SRC TREE [ROUNDS]      speed of the whole layout
   cover SEED COUNT             lines of format.rs reached (build with --features trace)
-  cover runs                   lines of the first rules that the recorded runs reach
+  cover runs                   lines of the rules that the recorded runs reach
 Families:";
 
 fn help() -> ! {
@@ -145,7 +145,7 @@ fn on_families(args: &[&str]) -> bool {
         #[cfg(feature = "trace")]
         ["cover", "runs"] => {
             record::make_runs();
-            crate::cover::report(Some(crate::cover::FIRST_RULES));
+            crate::cover::report(crate::cover::NO_RULES);
         }
         #[cfg(feature = "trace")]
         ["cover", seed, count] => cover(seed, count),
@@ -312,5 +312,5 @@ fn cover(seed: &str, count: &str) {
     for case in by_hand.chain(readings::all().map(|r| r.case())) {
         case::run(&case);
     }
-    crate::cover::report(None);
+    crate::cover::report(&[]);
 }

@@ -44,6 +44,11 @@ pub fn build(text: &str) -> (String, Vec<Rec>) {
     (reader.source, reader.records)
 }
 
+/// A word B in a tree's words is an empty block.
+pub fn with_blocks(tree: &str) -> String {
+    tree.replace(" B", r#" (block "{" (block_body) "}")"#)
+}
+
 struct Reader {
     text: Vec<char>,
     at: usize,
@@ -126,6 +131,13 @@ const MARKS: &[(&str, &str)] = &[
     ("*", "star"),
     ("#", "pound"),
     ("_", "pat_ignore"),
+    (".", "dot"),
+    ("?", "question"),
+    ("!", "bang"),
+    ("=>", "rocket"),
+    ("..=", "dotdoteq"),
+    ("|", "pipe"),
+    ("||", "pipepipe"),
 ];
 
 /// The kind of a token, a comment or white space by its text.
@@ -136,6 +148,7 @@ fn lexed(text: &str) -> u8 {
         None if text.trim().is_empty() => "ws",
         None if text.starts_with("//") => "line_comment",
         None if text.starts_with("/*") => "block_comment",
+        None if text.starts_with('\'') => "label",
         None if text.starts_with(|c: char| c.is_ascii_digit()) => "number",
         None => return named(&format!("kw_{text}")).unwrap_or(IDENT),
     };

@@ -1,8 +1,8 @@
 /*
  * What is checked after each run, from outside and without the rules of layout:
  *
- *   Demand 1   The answer is the refusal that the header gives before the rule is asked, else 0 or one of 8, 4, 5, 6,
- *              its place in range. A refused run changes no byte of the state and none of the buffer below the former
+ *   Demand 1   The answer is the refusal that the header gives before the rule is asked, else 0 or one of 8, 9, 4, 5,
+ *              6, its place in range. A refused run changes no byte of the state and none of the buffer below the former
  *              length; from there to the end it is zero. Where the state has no shape nothing changes. A success
  *              touches no byte below the former length or beyond the new one, and leaves a state of the one form.
  *   Demand 3   Of the comments that waited a head was let out and the others still wait, in order and before all new
@@ -34,6 +34,10 @@ static void refusal_of_the_rule_fits(const struct lent *l, uint64_t answer, uint
         break;
     case SAVETNUOK_WRONG_KIND:
         HOLDS(place >= node && place <= last, "a run on %u gives refusal 8 at %u", node, place);
+        break;
+    case SAVETNUOK_NO_RULE:
+        HOLDS(place > node && place <= last, "a run on %u gives refusal 9 at %u", node, place);
+        HOLDS(l->tree.at[record_at(l->tree, place)] >= 0x80, "refusal 9 at %u, which is a leaf", place);
         break;
     case SAVETNUOK_NO_ROOM:
         HOLDS(place >= word(l->state.at, SAVETNUOK_STATE_LENGTH) && place <= l->out.len, "refusal 4 at %u", place);

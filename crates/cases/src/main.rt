@@ -1,12 +1,14 @@
-// Document 01's small sessions P4 to P10 through the public functions: each answer, the output, and how many comments wait.
+// Document 01's small sessions through the public functions: each answer, how many comments wait, and the output. P1 to P3 and the two lists are
+// layout runs, P4 to P10 calls.
+mod lists;
+mod say;
+
 use entry::engine;
 use entry::state::State;
 use entry::state::fresh;
-use libc::STDOUT_FILENO;
-use meaning::answer::Answer;
-use meaning::answer::Refusal;
 use meaning::call::Call;
 use meaning::call::Hint;
+use say::show;
 use tree::record::RecordNo;
 
 // A line comment, a block comment and two tokens.
@@ -78,37 +80,6 @@ fn engine_of(len: usize, notes: u32, before: u32, block: bool, lines: u32) -> St
     s
 }
 
-fn digit(n: u8) {
-    let d = [0x30 + n % 10];
-    io::write_all(STDOUT_FILENO, &d);
-}
-
-fn number_of(a: Answer) -> u8 {
-    match a {
-        Answer::Done => 0,
-        Answer::Refused(r) => match r {
-            Refusal::IndentOut(_) => 6,
-            _ => 99,
-        },
-    }
-}
-
-// The name, the refusal's number or 0, how many wait, and the output.
-fn show(name: &[u8], a: Answer, s: State, out: &[u8]) {
-    io::write_all(STDOUT_FILENO, name);
-    io::write_all(STDOUT_FILENO, b" ");
-    digit(number_of(a));
-    io::write_all(STDOUT_FILENO, b" ");
-    let waiting = s.now.count;
-    digit((waiting % 10) as u8);
-    io::write_all(STDOUT_FILENO, b" [");
-    let n = s.now.len;
-    if n <= out.len() {
-        io::write_all(STDOUT_FILENO, &out[0..n]);
-    }
-    io::write_all(STDOUT_FILENO, b"]\n");
-}
-
 fn run(name: &[u8], first: u8, s: State, c: Call, then: Call, two: bool) {
     let mut out = [0u8; 40];
     out[0] = first;
@@ -127,7 +98,8 @@ fn run(name: &[u8], first: u8, s: State, c: Call, then: Call, two: bool) {
     }
 }
 
-fn main() {
+// P4 to P7: comments wait.
+fn waiting() {
     let z = Call::WriteOwned(RecordNo(3));
     run(
         b"P4",
@@ -161,6 +133,11 @@ fn main() {
         z,
         false,
     );
+}
+
+// P8 to P10: none does.
+fn none_waiting() {
+    let z = Call::WriteOwned(RecordNo(3));
     run(
         b"P8",
         0,
@@ -185,4 +162,11 @@ fn main() {
         z,
         true,
     );
+}
+
+fn main() {
+    lists::widths();
+    waiting();
+    none_waiting();
+    lists::samples();
 }

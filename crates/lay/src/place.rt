@@ -20,14 +20,14 @@ fn more(n: u64) -> u64 {
 }
 
 // The column behind a byte: a newline begins a line, a byte that goes on with a character takes no column.
-fn behind(column: u64, b: u8) -> u64 {
+fn behind(n: u64, b: u8) -> u64 {
     if b == 10 {
         return 1;
     }
     if 0x80 <= b && b < 0xC0 {
-        return column;
+        return n;
     }
-    more(column)
+    more(n)
 }
 
 // The column of the byte at a place, in characters.

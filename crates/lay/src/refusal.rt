@@ -12,7 +12,7 @@ fn words(text: &[u8]) {
 }
 
 // What each number means.
-fn meaning(n: u32) {
+fn say_meaning(n: u32) {
     match n {
         1 => words(b"the script is over 65,536 bytes"),
         2 => words(b"the script is not well-formed UTF-8"),
@@ -30,7 +30,7 @@ fn meaning(n: u32) {
 }
 
 // Where it was met.
-fn place(source: &[u8], tree: &[u8], r: Refusal) {
+fn say_place(source: &[u8], tree: &[u8], r: Refusal) {
     match r {
         Refusal::SourceLong => at_byte(source, BytePos(65536)),
         Refusal::SourceIll(p) => at_byte(source, p),
@@ -52,6 +52,6 @@ pub fn say(source: &[u8], tree: &[u8], r: Refusal) {
     words(b"refusal ");
     io::print_decimal(2, n as u64);
     words(b", ");
-    meaning(n);
-    place(source, tree, r);
+    say_meaning(n);
+    say_place(source, tree, r);
 }

@@ -61,7 +61,7 @@ fn replay_file(path: &[u8], with_runs: bool, counts: &mut Counts) {
     let mut window = [0u8; 131072];
     let mut source = [0u8; 65536];
     let mut list = [0u8; 4096];
-    let mut out = [0u8; 2048];
+    let mut out = [0u8; 8192];
     replay(
         fd,
         &mut window,

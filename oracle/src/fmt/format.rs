@@ -21,26 +21,6 @@ pub fn has_rule(kind: Kind) -> bool {
     )
 }
 
-/// The kinds of the first rules: paths, patterns, arguments, bodies, structs, enums
-/// and uses. They call no rule of another kind.
-pub const FIRST_RULES: [Kind; 15] = [
-    Path,
-    PathGenerics,
-    Pat,
-    PatArray,
-    PatTuple,
-    PatObject,
-    FnArgs,
-    TupleBody,
-    StructBody,
-    Variant,
-    ItemStruct,
-    ItemEnum,
-    ItemUse,
-    ItemUsePath,
-    ItemUseGroup,
-];
-
 /// Makes the calls of a node's rule, for a kind that has one.
 pub(super) fn run<'a>(fmt: &mut Formatter<'a>, node: Node<'a>) -> Result<()> {
     let kind = node.kind();

@@ -29,6 +29,8 @@ pub struct Opts {
     pub trim_all: bool,
     /// names and indentation get up to this many bytes more
     pub pad: usize,
+    /// every list and chain is filled up to a width near 80
+    pub fill: bool,
     pub force: Force,
 }
 
@@ -42,6 +44,7 @@ impl Opts {
             non_ascii: rng.one_in(2),
             trim_all: false,
             pad: 0,
+            fill: false,
             force: Force::Nothing,
         }
     }

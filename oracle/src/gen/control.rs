@@ -13,7 +13,7 @@ impl Builder {
         self.close();
     }
 
-    fn condition(&mut self, depth: usize) {
+    pub(super) fn condition(&mut self, depth: usize) {
         if self.rng.one_in(3) {
             self.node(CONDITION);
             self.token(KW_LET, "let");

@@ -116,7 +116,7 @@ impl Builder {
         self.token(open.0, open.1);
         let many = self.rng.one_in(5);
         let n = self.entries(many);
-        let fill = self.rng.one_in(4);
+        let fill = self.rng.one_in(4) || self.opts.fill;
         let depth = if fill || many { depth.min(1) } else { depth };
         self.commas(n, |b| b.expr(depth));
         if !fill {
@@ -153,7 +153,7 @@ impl Builder {
         self.token(BRACE_OPEN, "{");
         let many = self.rng.one_in(4);
         let n = self.entries(many);
-        let fill = self.rng.one_in(4);
+        let fill = self.rng.one_in(4) || self.opts.fill;
         let depth = if fill || many { depth.min(1) } else { depth };
         self.commas(n, |b| {
             b.object_key();
@@ -218,7 +218,7 @@ impl Builder {
         self.node(EXPR_CHAIN);
         let at = self.records.len() - 1;
         let fill_head = self.rng.one_in(5);
-        let fill_all = self.rng.one_in(3);
+        let fill_all = self.rng.one_in(3) || self.opts.fill;
         if fill_head && self.rng.one_in(2) {
             let n = 76 + self.rng.below(8);
             let name = self.long_name(n);

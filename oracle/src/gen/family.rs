@@ -1,7 +1,7 @@
 //! The families of cases by name.
 use super::builder::Force;
 use super::damage::Patient;
-use super::{expr, history, item, rules, small_tree, Builder, Opts, Rng};
+use super::{expr, history, item, nests, rules, small_tree, Builder, Opts, Rng};
 use crate::call::{layout_step, run_step, Call};
 use crate::case::{self, Case};
 use crate::fmt::format::has_rule;
@@ -26,7 +26,15 @@ pub const FAMILIES: &[(&str, &str)] = &[
     ("runs", "layout runs of single nodes, some calls between"),
     (
         "rules",
-        "runs on each node of the first rules, good and damaged",
+        "runs on each node of paths, patterns, bodies and uses, good and damaged",
+    ),
+    (
+        "exprs",
+        "runs on nodes of expressions, statements, blocks and items, good and damaged",
+    ),
+    (
+        "nests",
+        "forms inside each other at depths 34 to 66, runs on their nodes",
     ),
     (
         "damaged",
@@ -48,6 +56,8 @@ pub fn make(family: &str, seed: u64, i: u64) -> Option<Case> {
         "focus" => focus(rng, i as usize),
         "runs" => runs(rng),
         "rules" => rules::rules(rng),
+        "exprs" => rules::exprs(rng),
+        "nests" => nests::nests(rng),
         "damaged" => damaged(rng),
         "big" => big(rng),
         _ => return None,
@@ -102,10 +112,14 @@ fn layout(rng: &mut Rng, trim_all: bool) -> Case {
     case
 }
 
+const PATTERNS: usize = 6;
+/// How many sorts `focus` takes in turn.
+pub const FOCUS: usize = expr::SORTS + item::ITEMS.len() + PATTERNS;
+
 fn focus(rng: &mut Rng, i: usize) -> Case {
     let sorts = (0..expr::SORTS).map(Force::Expr);
     let sorts = sorts.chain((0..item::ITEMS.len()).map(Force::Item));
-    let sorts: Vec<Force> = sorts.chain((0..6).map(Force::Pattern)).collect();
+    let sorts: Vec<Force> = sorts.chain((0..PATTERNS).map(Force::Pattern)).collect();
     let opts = Opts {
         size: rng.pick(&[8, 15, 30, 60]),
         comments: rng.pick(&[0, 10, 30, 55]),

@@ -14,6 +14,7 @@ pub fn small_tree(rng: &mut Rng, trim_all: bool) -> (String, Vec<Rec>) {
         non_ascii: rng.one_in(2),
         trim_all,
         pad: 0,
+        fill: false,
         force: Force::Nothing,
     };
     let mut b = Builder::new(rng.branch(), opts);

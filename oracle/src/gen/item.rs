@@ -91,7 +91,7 @@ impl Builder {
         self.close();
     }
 
-    fn item(&mut self, depth: usize) {
+    pub(super) fn item(&mut self, depth: usize) {
         let mut kind = self.rng.pick(&ITEMS);
         if let Force::Item(forced) = self.opts.force {
             kind = ITEMS[forced];
@@ -238,7 +238,7 @@ impl Builder {
         self.semicolon(needed);
     }
 
-    fn statement(&mut self, depth: usize) {
+    pub(super) fn statement(&mut self, depth: usize) {
         let mut sort = self.rng.below(10);
         match self.opts.force {
             Force::Expr(_) => sort = 9,

@@ -6,13 +6,14 @@ mod expr;
 mod family;
 mod history;
 mod item;
+pub mod nests;
 mod opening;
 mod pattern;
 mod rng;
 mod rules;
 
 pub use builder::{Builder, Opts};
-pub use family::{make, FAMILIES};
+pub use family::{make, FAMILIES, FOCUS};
 pub use history::{history, small_tree};
 pub use opening::{damaged_bytes, random_source, random_tree};
 pub use rng::Rng;

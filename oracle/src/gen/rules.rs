@@ -1,16 +1,60 @@
-//! The family `rules`: runs on every node of the first rules in a random tree of
-//! items, patterns and paths, good or damaged, with calls between.
+//! The family `rules`: runs on every node of a random tree of paths, patterns, bodies,
+//! structs, enums and uses, good or damaged, with calls between.
+use super::builder::Force;
 use super::damage::Patient;
-use super::{history, Builder, Opts, Rng};
+use super::family::FOCUS;
+use super::{expr, history, Builder, Opts, Rng};
+use crate::ast::Kind;
 use crate::call::{run_step, Call};
 use crate::case::{self, Case};
-use crate::fmt::format::{has_rule, FIRST_RULES};
+use crate::fmt::format::has_rule;
 use crate::grammar::Rec;
 use crate::kinds::k::*;
 use crate::opening::join;
 
+/// The kinds that it runs on. Their rules call no rule of another kind.
+const KINDS: [Kind; 15] = [
+    Kind::Path,
+    Kind::PathGenerics,
+    Kind::Pat,
+    Kind::PatArray,
+    Kind::PatTuple,
+    Kind::PatObject,
+    Kind::FnArgs,
+    Kind::TupleBody,
+    Kind::StructBody,
+    Kind::Variant,
+    Kind::ItemStruct,
+    Kind::ItemEnum,
+    Kind::ItemUse,
+    Kind::ItemUsePath,
+    Kind::ItemUseGroup,
+];
+
 pub(super) fn rules(rng: &mut Rng) -> Case {
-    let (source, records) = nodes(rng);
+    let tree = nodes(rng);
+    damaged_runs(rng, tree, 6, |rng, records| steps(rng, records))
+}
+
+/// The family `exprs`: the same on small random expressions, statements and items.
+pub(super) fn exprs(rng: &mut Rng) -> Case {
+    let tree = expressions(rng);
+    damaged_runs(rng, tree, 2, |rng, records| {
+        let mut steps = before(rng, records.len());
+        let n = 1 + rng.below(10);
+        steps.extend(some_runs(rng, records, n));
+        steps
+    })
+}
+
+/// A tree damaged in up to three places, and steps over it; one in so many cases has
+/// too little room.
+fn damaged_runs(
+    rng: &mut Rng,
+    (source, records): (String, Vec<Rec>),
+    cramped: usize,
+    steps: impl Fn(&mut Rng, &[Rec]) -> Vec<Vec<u8>>,
+) -> Case {
     let mut patient = Patient {
         source: source.into_bytes(),
         records,
@@ -31,14 +75,14 @@ pub(super) fn rules(rng: &mut Rng) -> Case {
         damage,
         ..Case::new(source, join(&records), steps)
     };
-    if rng.one_in(6) {
+    if rng.one_in(cramped) {
         let needed = case::run(&case).output.len();
         case.cap = rng.below(needed + 1);
     }
     case
 }
 
-/// One to three nodes of the first rules side by side.
+/// One to three nodes of these kinds side by side.
 fn nodes(rng: &mut Rng) -> (String, Vec<Rec>) {
     let opts = Opts {
         size: rng.pick(&[4, 10, 25, 60]),
@@ -60,6 +104,62 @@ fn nodes(rng: &mut Rng) -> (String, Vec<Rec>) {
         b.gap();
     }
     b.done()
+}
+
+/// One or two nodes side by side, lists and chains often near a width of 80.
+fn expressions(rng: &mut Rng) -> (String, Vec<Rec>) {
+    let sort = rng.below(FOCUS);
+    let opts = Opts {
+        size: rng.pick(&[4, 10, 25, 60]),
+        fill: rng.one_in(3),
+        force: if sort < expr::SORTS {
+            Force::Expr(sort)
+        } else {
+            Force::Nothing
+        },
+        ..Opts::random(rng)
+    };
+    let mut b = Builder::new(rng.branch(), opts);
+    b.gap();
+    for _ in 0..1 + b.rng.below(2) {
+        let depth = 1 + b.rng.below(4);
+        match b.rng.below(10) {
+            0..=2 => b.inner(depth),
+            3 => b.expr(depth),
+            4 => b.block(depth),
+            5 => b.condition(depth),
+            6 => b.jump(depth),
+            7 => b.range(depth),
+            8 => b.statement(depth),
+            _ => b.item(depth),
+        }
+        b.gap();
+    }
+    let (source, mut records) = b.done();
+    // a statement that needs a semicolon, or none, whatever it is
+    for r in records
+        .iter_mut()
+        .filter(|r| (ITEM..=EXPR_SEMI).contains(&r.kind))
+    {
+        r.kind ^= rng.one_in(4) as u8;
+    }
+    (source, records)
+}
+
+/// So many runs on nodes that have a rule, the first of them first, and calls between.
+pub(super) fn some_runs(rng: &mut Rng, records: &[Rec], n: usize) -> Vec<Vec<u8>> {
+    let with_rule: Vec<usize> = (0..records.len())
+        .filter(|i| has_rule(records[*i].rust_kind()))
+        .collect();
+    let mut steps = vec![];
+    for (i, first) in with_rule.iter().take(n).enumerate() {
+        let node = if i < 2 { *first } else { rng.pick(&with_rule) };
+        steps.push(run_step(node as u32));
+        if rng.one_in(4) {
+            steps.push(between(rng).encode());
+        }
+    }
+    steps
 }
 
 impl Builder {
@@ -95,10 +195,10 @@ impl Builder {
     }
 }
 
-/// A run on each node of the first rules, seldom one on another that has none, and
+/// A run on each node of these kinds, seldom one on another that has none, and
 /// calls between.
 fn steps(rng: &mut Rng, records: &[Rec]) -> Vec<Vec<u8>> {
-    let first = |i: &usize| FIRST_RULES.contains(&records[*i].rust_kind());
+    let first = |i: &usize| KINDS.contains(&records[*i].rust_kind());
     let without = |i: &usize| !has_rule(records[*i].rust_kind());
     let mut runs: Vec<usize> = (0..records.len()).filter(first).collect();
     let others: Vec<usize> = (0..records.len()).filter(without).collect();

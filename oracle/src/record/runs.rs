@@ -1,12 +1,11 @@
-//! Recorded histories of layout runs on nodes of the first rules, with calls
-//! between them.
+//! Recorded histories of layout runs on nodes of every rule, with calls between them.
 use std::collections::BTreeMap;
 
 use super::history::{Made, Recorded};
 use super::rules;
 use crate::call::Step;
 use crate::docengine::Trim;
-use crate::fmt::format::{has_rule, FIRST_RULES};
+use crate::fmt::format::has_rule;
 use crate::kinds::KIND_NAME;
 
 /// The file's bytes; prints how many histories of each sort they hold, and how the
@@ -34,7 +33,12 @@ pub fn record(trim: Trim) -> Vec<u8> {
         "  at most: source {}, tree {}, buffer {}, step {}",
         largest.source, largest.tree, largest.cap, largest.step
     );
-    assert!(bytes.len() < 410_000, "the file grew too large");
+    assert!(bytes.len() < 1_600_000, "the file grew too large");
+    // what the program that replays it has room for
+    assert!(
+        largest.tree <= 4_096 && largest.cap <= 8_192,
+        "a history grew too large"
+    );
     bytes
 }
 
@@ -54,6 +58,29 @@ struct Answers {
 }
 
 const NUMBERS: [u64; 8] = [0, 4, 5, 6, 8, 9, 10, 11];
+/// How many kinds have a rule.
+const RULES: usize = 60;
+/// Those whose rule indents, by itself or in the block that it must have.
+const INDENTING: [&str; 18] = [
+    "struct_body",
+    "variant",
+    "item_struct",
+    "item_enum",
+    "block",
+    "item_fn",
+    "item_impl",
+    "item_mod",
+    "expr_array",
+    "expr_call",
+    "expr_object",
+    "expr_chain",
+    "expr_if",
+    "expr_while",
+    "expr_loop",
+    "expr_for",
+    "expr_select",
+    "expr_match",
+];
 const WITHOUT: &str = "a kind without a rule";
 const MISSING: &str = "no such node";
 
@@ -64,11 +91,8 @@ impl Answers {
         };
         let name = match made.tree.records.get(node as usize) {
             None => MISSING,
-            Some(r) if FIRST_RULES.contains(&r.rust_kind()) => KIND_NAME[r.kind as usize],
-            Some(r) => {
-                assert!(!has_rule(r.rust_kind()), "a run on a rule that comes later");
-                WITHOUT
-            }
+            Some(r) if has_rule(r.rust_kind()) => KIND_NAME[r.kind as usize],
+            Some(_) => WITHOUT,
         };
         let answers = self.by_kind.entry(name).or_default();
         *answers.entry(made.answer >> 32).or_default() += 1;
@@ -100,14 +124,14 @@ impl Answers {
     fn check(&self) {
         let mut rules: Vec<&str> = self.by_kind.keys().copied().collect();
         rules.retain(|n| *n != WITHOUT && *n != MISSING);
-        assert_eq!(rules.len(), FIRST_RULES.len());
+        assert_eq!(rules.len(), RULES);
         for name in rules {
             for number in [0, 4, 5, 8, 10] {
                 let n = self.of(name, number);
                 assert!(n > 0, "{name} is never answered {number}");
             }
         }
-        for name in ["struct_body", "variant", "item_struct", "item_enum"] {
+        for name in INDENTING {
             assert!(self.of(name, 6) > 0, "{name} is never answered 6");
         }
     }

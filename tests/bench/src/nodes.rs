@@ -1,5 +1,5 @@
-//! Nodes that have a rule, each a few hundred records large: source and tree, whose
-//! first record is the node.
+//! Nodes that have a rule, each a few hundred to 8,000 records large: source and tree,
+//! whose first record is the node.
 use oracle::grammar::Rec;
 use oracle::opening::join;
 
@@ -8,9 +8,15 @@ const LINE_COMMENT: u8 = 0x01;
 const IDENT: u8 = 0x03;
 const COMMA: u8 = 0x18;
 const COLONCOLON: u8 = 0x1B;
+const EQ: u8 = 0x1C;
+const BLOCK_BODY: u8 = 0x80;
+const BLOCK: u8 = 0x81;
+const LOCAL_SEMI: u8 = 0x95;
+const EXPR: u8 = 0x96;
 const FIELD: u8 = 0xA6;
 const PATH: u8 = 0xB0;
 const PAT: u8 = 0xB2;
+const EXPR_CALL: u8 = 0xE6;
 
 /// How many names, fields or patterns stand in a node.
 const ENTRIES: usize = 300;
@@ -47,11 +53,32 @@ impl Builder {
 
     /// Entries, a comma and a space behind each.
     fn list(&mut self, entry: impl Fn(&mut Self, usize)) -> &mut Self {
-        for i in 0..ENTRIES {
+        self.list_of(ENTRIES, entry)
+    }
+
+    fn list_of(&mut self, n: usize, entry: impl Fn(&mut Self, usize)) -> &mut Self {
+        for i in 0..n {
             entry(self, i);
             self.leaf(COMMA, ",").leaf(WS, " ");
         }
         self
+    }
+
+    fn path_of(&mut self, name: &str) -> &mut Self {
+        self.open(PATH).leaf(IDENT, name).close()
+    }
+
+    /// An expression of one name.
+    fn expr(&mut self, name: &str) -> &mut Self {
+        self.open(EXPR).path_of(name).close()
+    }
+
+    /// `let name = value;` and a newline: 14 records.
+    fn local(&mut self, i: usize) -> &mut Self {
+        self.open(LOCAL_SEMI).leaf(0x30, "let").leaf(WS, " ");
+        self.open(PAT).path_of(&name(i)).close().leaf(WS, " ");
+        self.leaf(EQ, "=").leaf(WS, " ").expr("value").close();
+        self.leaf(0x19, ";").leaf(WS, "\n")
     }
 
     fn done(&mut self) -> (Vec<u8>, Vec<u8>) {
@@ -113,6 +140,43 @@ fn uses() -> Builder {
     b
 }
 
+/// A block of 8,000 records: so many statements as fit.
+fn block() -> Builder {
+    let mut b = Builder::default();
+    b.open(BLOCK).leaf(0x12, "{").open(BLOCK_BODY);
+    let mut i = 0;
+    while b.records.len() + 15 <= 8_000 {
+        b.local(i);
+        i += 1;
+    }
+    b.close().leaf(0x13, "}").close();
+    b
+}
+
+/// A list of 1,000, loose for its width.
+fn list() -> Builder {
+    let mut b = Builder::default();
+    b.open(0xC3).leaf(0x14, "[");
+    b.list_of(1_000, |b, i| {
+        b.expr(&name(i));
+    });
+    b.leaf(0x15, "]").close();
+    b
+}
+
+/// A chain of 100 links, `.name(value)` fifty times.
+fn chain() -> Builder {
+    let mut b = Builder::default();
+    b.open(0xE2).path_of("pool");
+    for i in 0..50 {
+        b.open(0xE5).leaf(0x26, ".").path_of(&name(i)).close();
+        b.open(EXPR_CALL).leaf(0x10, "(").expr("value");
+        b.leaf(0x11, ")").close();
+    }
+    b.close();
+    b
+}
+
 /// Name, source and tree of each.
 pub fn all() -> Vec<(&'static str, Vec<u8>, Vec<u8>)> {
     let nodes = [
@@ -121,6 +185,9 @@ pub fn all() -> Vec<(&'static str, Vec<u8>, Vec<u8>)> {
         ("a struct of 300 fields", fields(false)),
         ("the same, a comment before each", fields(true)),
         ("a use of 300 names", uses()),
+        ("a block of 8,000 records", block()),
+        ("a list of 1,000 entries", list()),
+        ("a chain of 100 links", chain()),
     ];
     let built = |(name, mut b): (&'static str, Builder)| {
         let (source, tree) = b.done();

@@ -135,9 +135,11 @@ fn run(source: &[u8], tree: &[u8], out: &mut [u8]) -> u64 {
     u32::from_le_bytes(state[..4].try_into().unwrap()) as u64
 }
 
-/// How many runs are made over one decoded tree; the decoding is shared out among
-/// them.
-const TIMES: u32 = 256;
+/// How many runs are made over one decoded tree of so many records; the decoding is
+/// shared out among them.
+fn times(records: usize) -> u32 {
+    (262_144 / records as u32).clamp(16, 256)
+}
 
 /// Runs beside the Rust's on the same node: the rule alone, and all that a public
 /// run does.
@@ -155,15 +157,16 @@ pub fn runs() {
         assert_eq!(out[..len], *buffer.text.as_bytes());
         assert_eq!(exported::runs(&source, &tree, &mut out2, 0, 1), len as u64);
         assert_eq!(out2[..len], *buffer.text.as_bytes());
+        let times = times(records.records.len());
         let best = least(
             ROUNDS,
             &mut [
-                &mut || exported::runs(&source, &tree, &mut out2, 0, TIMES),
+                &mut || exported::runs(&source, &tree, &mut out2, 0, times),
                 &mut || run(&source, &tree, &mut out),
                 &mut || rust::run(text, &records, &mut buffer).unwrap() as u64,
             ],
         );
-        let (alone, theirs) = (best[0] / f64::from(TIMES), best[2]);
+        let (alone, theirs) = (best[0] / f64::from(times), best[2]);
         println!(
             "| {name:44} | {alone:10.0} | {theirs:10.0} | {:5.2} | {:14.0} |",
             alone / theirs,

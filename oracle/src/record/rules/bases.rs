@@ -1,41 +1,14 @@
 //! Small trees of each rule, and every edit of them: comments and newlines in each
 //! gap, each record missing, doubled or of another kind, one left over.
+use super::small::{BLOCKS, EXPRS, LINED, LOOSENED, SPACED};
 use super::words::Words;
 use super::{encode, history, nodes, one_run};
 use crate::call::{run_step, Call};
 use crate::record::history::History;
 
-/// Rules that let comments out by spaces.
-const LISTS: &[&str] = &[
-    r#"(path "a" (path_generics "<" (path "b") "," (path "c") ">"))"#,
-    r#"(pat (attr "\#") (lit "-" "1"))"#,
-    r#"(pat_array "[" (pat "_") "," ".." "," "]")"#,
-    r#"(pat_tuple (path "A") "(" (pat "_") "," ".." ")")"#,
-    r#"(pat_tuple "(" (pat "_") ")")"#,
-    r#"(pat_object anon_key"\#" "{" obj_key"k" ":" (pat "_") "," ".." "}")"#,
-    r#"(pat_object (path "A") "{" obj_key"k" "," "}")"#,
-    r#"(fn_args "(" "," (pat "_") "," (pat "..") ")")"#,
-    r#"(tuple_body "(" (field "a") "," (field "b") "," ")")"#,
-    r#"(item_use (modifiers "pub") "use" "a" "as" "c")"#,
-    r#"(item_use "use" (item_use_group "{" (item_use_path "b") "," "}"))"#,
-    r#"(item_use_path "a" "::" (item_use_group "{" "}"))"#,
-    r#"(item_use_group "{" (item_use_path "a") "," (item_use_path "b") "}")"#,
-    r#"(variant "V" (tuple_body "(" ")"))"#,
-    r#"(variant "V" (empty_body))"#,
-    r#"(item_struct (modifiers "pub" (mod_crate "(" "crate" ")") "async") "struct" "S" (empty_body))"#,
-    r#"(item_struct (modifiers (mod_in "(" "in" (path "a") ")")) "struct" (tuple_body "(" ")"))"#,
-];
-
-/// Rules that let comments out by lines.
-const BODIES: &[&str] = &[
-    r#"(struct_body "{" (field "a") "," (field "b") "}")"#,
-    r#"(item_struct "struct" "S" (struct_body "{" "}"))"#,
-    r#"(item_enum "enum" "E" "{" (variant "A" (empty_body)) "," (variant (empty_body)) "}")"#,
-    r#"(item_enum "enum" "{" (variant "A" (struct_body "{" (field "a") "}")) "," "}")"#,
-];
-
 fn every() -> impl Iterator<Item = &'static str> {
-    LISTS.iter().chain(BODIES).copied()
+    let all = SPACED.iter().chain(LINED).chain(LOOSENED);
+    all.chain(EXPRS).chain(BLOCKS).copied()
 }
 
 /// Which hint lets a comment out is told by one of each kind: a line comment keeps
@@ -43,22 +16,30 @@ fn every() -> impl Iterator<Item = &'static str> {
 /// on a line of its own.
 const BLOCK_FIRST: &str = r#""/*c*/" "\n" "//l" "\n""#;
 const LINE_FIRST: &str = r#""//l" "\n\n" "/*c*/""#;
+const BLOCK_ONLY: &str = r#""/*c*/" "\n" "/*d*/""#;
 const BELOW: &str = r#""\n" "/*c*/" "\n""#;
 const NEWLINES: &str = r#""\n\n\n""#;
 
-/// Not every sort in every gap, so that the file stays small: where no hint lets
-/// lines out, the first sort tells all hints apart.
+/// Not every sort in every gap, so that the file stays small: the first sort tells
+/// all hints apart, but makes each list loose.
 pub fn gaps(all: &mut Vec<History>) {
-    for tree in LISTS {
+    for tree in SPACED.iter().chain(EXPRS).chain(BLOCKS) {
         let words = Words::of(tree);
         for gap in words.gaps() {
             in_gap(all, &words, gap, BLOCK_FIRST);
-            if gap % 8 == 2 {
+            if gap % 16 == 2 {
                 in_gap(all, &words, gap, LINE_FIRST);
             }
         }
     }
-    for tree in BODIES {
+    for tree in LOOSENED {
+        let words = Words::of(tree);
+        for gap in words.gaps() {
+            in_gap(all, &words, gap, BLOCK_ONLY);
+            in_gap(all, &words, gap, LINE_FIRST);
+        }
+    }
+    for tree in LINED {
         let words = Words::of(tree);
         for gap in words.gaps() {
             in_gap(all, &words, gap, BLOCK_FIRST);
@@ -82,7 +63,7 @@ fn in_gap(all: &mut Vec<History>, words: &Words, gap: usize, more: &str) {
 /// Every gap at once, at some indentation.
 pub fn all_gaps(all: &mut Vec<History>) {
     let sorts = [BLOCK_FIRST, NEWLINES, LINE_FIRST, BELOW];
-    for (i, tree) in every().enumerate().filter(|e| e.0 % 3 != 1) {
+    for (i, tree) in every().enumerate().step_by(3) {
         let tree = Words::of(tree).with_in_all(&sorts, i);
         let mut steps = encode(&[Call::Indent(1), Call::FlushPrefixComments]);
         steps.push(run_step(nodes(&tree)[0]));
@@ -90,13 +71,18 @@ pub fn all_gaps(all: &mut Vec<History>) {
     }
 }
 
+/// Of the expressions' records each is missing, and every second one of another kind
+/// or doubled.
 pub fn damages(all: &mut Vec<History>) {
-    for tree in every() {
+    for (i, tree) in every().enumerate() {
         let words = Words::of(tree);
+        let each = i < SPACED.len() + LINED.len();
         for record in words.records() {
             all.push(one_run("missing", &words.without(record)));
-            all.push(one_run("another kind", &words.of_another_kind(record)));
-            if words.is_leaf(record) {
+            if each || record % 2 == 0 {
+                all.push(one_run("another kind", &words.of_another_kind(record)));
+            }
+            if words.is_leaf(record) && (each || record % 2 == 1) {
                 all.push(one_run("doubled", &words.doubled(record)));
             }
         }
@@ -108,7 +94,7 @@ pub fn left_over(all: &mut Vec<History>) {
     let sorts = [r#""z""#, r#"(F0)"#, r#""//l" "\n" "," "z""#];
     for tree in every() {
         let words = Words::of(tree);
-        for (i, end) in words.ends().into_iter().rev().enumerate() {
+        for (i, end) in words.ends().into_iter().rev().enumerate().take(4) {
             let more = sorts[i % sorts.len()];
             all.push(one_run("left over", &words.with_in(end, more)));
         }

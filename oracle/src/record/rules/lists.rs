@@ -8,6 +8,17 @@ type List = (&'static str, [&'static str; 3], &'static str);
 
 const PATS: [&str; 3] = [r#"(pat "_")"#, r#"".." "#, r#"(pat (path "b"))"#];
 const KEYS: [&str; 3] = [r#"obj_key"k""#, r#"obj_key"l" ":" (pat "_")"#, r#""..""#];
+const EXPRS: [&str; 3] = [
+    r#"(expr "a")"#,
+    r#"(expr (path "b"))"#,
+    r#"(expr_semi "c")"#,
+];
+const PAIRS: [&str; 3] = [
+    r#"obj_key"k""#,
+    r#"obj_key"l" ":" (expr "v")"#,
+    r#"obj_key"m""#,
+];
+const ARGS: [&str; 3] = [r#"(pat "_")"#, r#"(pat "..")"#, r#"(pat (path "b"))"#];
 const FIELDS: [&str; 3] = [r#"(field "a")"#, r#"(field "b")"#, r#"(field "c")"#];
 
 const LISTS: &[List] = &[
@@ -43,6 +54,42 @@ const LISTS: &[List] = &[
             r#"(item_use_path "a")"#,
             r#"(item_use_path)"#,
             r#"(item_use_path "b" "as" "c")"#,
+        ],
+        r#""}")"#,
+    ),
+    // compact, and loose by a line comment at the end
+    (r#"(expr_array "[""#, EXPRS, r#""]")"#),
+    (r#"(expr_array "[""#, EXPRS, r#""//z" "\n" "]")"#),
+    (r#"(expr_call "(""#, EXPRS, r#"")")"#),
+    (r#"(expr_call "(""#, EXPRS, r#"")" "//z" "\n")"#),
+    (r#"(expr_tuple "(""#, EXPRS, r#"")")"#),
+    (r#"(expr_object anon_key"\#" "{""#, PAIRS, r#""}")"#),
+    (
+        r#"(expr_object anon_key"\#" "{""#,
+        PAIRS,
+        r#""//z" "\n" "}")"#,
+    ),
+    (r#"(expr_object (path "A") "{""#, PAIRS, r#""}")"#),
+    (
+        r#"(expr_closure (closure_args "|""#,
+        ARGS,
+        r#""|") (expr "x"))"#,
+    ),
+    (
+        r#"(expr_select "select" "{""#,
+        [
+            r#"(select_arm "default" "=>" (expr "a"))"#,
+            r#"(select_arm (pat "_") "=>" (expr (block "{" (block_body) "}")))"#,
+            r#"(select_arm (pat "_") "=" (expr "b") "=>" (expr "c"))"#,
+        ],
+        r#""}")"#,
+    ),
+    (
+        r#"(expr_match "match" (expr "a") "{""#,
+        [
+            r#"(match_arm (pat "_") "=>" (expr "b"))"#,
+            r#"(match_arm (pat "_") "=>" (expr (block "{" (block_body) "}")))"#,
+            r#"(match_arm (pat "_") "if" (expr "c") "=>" (expr "d"))"#,
         ],
         r#""}")"#,
     ),

@@ -1,6 +1,6 @@
 //! Runs that are refused before their rule (9, 10, 11) and in the middle of it for
 //! want of room (4), by the queue (5) and at the last indentation (6).
-use super::waiting::NODES;
+use super::nodes::{FIRST, NODES};
 use super::words::Words;
 use super::{encode, history};
 use crate::call::run_step;
@@ -11,7 +11,7 @@ use crate::kinds::{KIND_NAME, KIND_OF};
 use crate::opening::join;
 use crate::record::history::History;
 use crate::record::pieces::Pieces;
-use crate::sx;
+use crate::sx::{self, with_blocks};
 
 /// A run on each of these trees' first records, side by side in one tree.
 fn side_by_side(sort: &'static str, trees: &[String]) -> History {
@@ -32,8 +32,19 @@ fn empty(kind: u8) -> String {
     }
 }
 
-/// The kinds without a rule; many a leaf and every composite as a pattern's child,
-/// every composite as a variant's body.
+const PARENTS: [&str; 4] = ["pat", "variant", "expr", "block_body"];
+
+/// Where few are taken, or any is written or run through `expr`: one in four will do.
+const OTHERS: [&str; 4] = [
+    "item",
+    r#"expr_chain "h""#,
+    r#"expr_if "if" (expr "c")"#,
+    r#"item_const "X" "=""#,
+];
+
+/// The kinds without a rule; many a leaf and every composite as a pattern's and an
+/// expression's child; every composite as a variant's body and as a statement; some as
+/// an item, a chain's link, behind an `if`, and where any is run through `expr`.
 pub fn kinds(all: &mut Vec<History>) {
     let known = |kind: &u8| !KIND_NAME[*kind as usize].is_empty();
     let without_rule = |kind: &u8| !has_rule(KIND_OF[*kind as usize]);
@@ -43,13 +54,11 @@ pub fn kinds(all: &mut Vec<History>) {
         let kinds = kinds.into_iter().filter(known).map(empty);
         kinds.map(|k| format!("({parent} {k})")).collect()
     };
-    let lists = [
-        without.map(empty).collect(),
-        inside("pat", (3..0x80).step_by(3).collect()),
-        inside("pat", (0x80..=255).collect()),
-        inside("variant", (0x80..=255).collect()),
-    ];
-    for trees in lists.iter().flat_map(|l: &Vec<String>| l.chunks(50)) {
+    let mut lists: Vec<Vec<String>> = vec![without.map(empty).collect()];
+    lists.extend(["pat", "expr"].map(|p| inside(p, (3..0x80).step_by(3).collect())));
+    lists.extend(PARENTS.map(|p| inside(p, (0x80..=255).collect())));
+    lists.extend(OTHERS.map(|p| inside(p, (0x80..=255).step_by(4).collect())));
+    for trees in lists.iter().flat_map(|l: &Vec<String>| l.chunks(20)) {
         all.push(side_by_side("kinds", trees));
     }
     // with records inside, and comments between
@@ -83,20 +92,24 @@ pub fn finished(all: &mut Vec<History>) {
             steps.swap(0, 1);
         }
         let leaf = 1;
-        steps.extend([0, leaf, 99].map(run_step));
+        // not all of them behind each node, so that the file stays small
+        let late = [0, leaf, 99].map(run_step);
+        steps.extend(late.into_iter().take(3 - i % 3));
         all.push(history("finished", &tree, steps));
     }
 }
 
 /// Too little room: for the first run, and for the second in its middle.
 pub fn rooms(all: &mut Vec<History>) {
-    for node in NODES {
+    for (i, node) in NODES.iter().enumerate() {
         let tree = format!(r#"{node} "/*c*/""#);
         let [lit, run, nl] = [Lit(5).encode(), run_step(0), Nl(1).encode()];
         let steps = || vec![lit.clone(), run.clone(), nl.clone(), run.clone()];
         let needed = history("rooms", &tree, steps()).needs();
-        for cap in [needed / 3, needed - 2] {
-            let cap = Some(cap);
+        // one of the first nodes is also refused in its first run
+        let caps = [needed - 2, needed / 3];
+        for cap in &caps[..1 + (i < FIRST) as usize] {
+            let cap = Some(*cap);
             let h = history("rooms", &tree, steps());
             all.push(History { cap, ..h });
         }
@@ -111,6 +124,11 @@ fn every_room(all: &mut Vec<History>) {
         r#"(variant "//l" "\n" "V" "/*c*/" (struct_body "{" (field "a") "//m" "\n" "}"))"#,
         r#"(struct_body "{" "/*c*/" "\n" "//l" "\n" (field "a") "," "/*d*/" "\n" "//m" "\n" (field "b") "/*e*/" "\n" "//n" "}")"#,
         r#"(item_enum "enum" "{" "/*c*/" "\n" "//l" "\n" (variant "A" (empty_body)) "," "/*d*/" "\n" "//m" "\n" "}")"#,
+        r#"(expr_call "(" "//l" "\n" (expr "a") "//m" "\n" "," "/*d*/" "\n" (expr "b") ")")"#,
+        r#"(expr_object anon_key"\#" "{" "//l" "\n" obj_key"k" ":" (expr "v") "/*c*/" "\n" "}")"#,
+        r#"(expr_match "match" (expr "a") "{" "//l" "\n" (match_arm (pat "_") "=>" (expr "b")) "/*c*/" "\n" "}")"#,
+        r#"(expr_select "select" "{" "//l" "\n" (select_arm "default" "=>" (expr "b")) "}")"#,
+        r#"(block_body "//l" "\n" (local_semi "let" (pat "_") "=" (expr "x")) "/*c*/" (item (item_fn "fn" "f")))"#,
     ] {
         let with = |cap| History {
             cap: Some(cap),
@@ -172,24 +190,54 @@ pub fn queues(all: &mut Vec<History>) {
     all.push(many(tree, true, 255, steps));
 }
 
+/// What needs a level more, two, or none.
+const INDENTED: &[&str] = &[
+    r#"(struct_body "{" "}")"#,
+    r#"(item_enum "enum" "{" "}")"#,
+    r#"(item_enum "enum" "E")"#,
+    r#"(item_enum "enum" "{" (variant (struct_body "{" "}")) "}")"#,
+    r#"(variant "V" (struct_body "{" "}"))"#,
+    r#"(item_struct "struct" "S" (struct_body "{" "}"))"#,
+    r#"(item_struct "struct" "S" (tuple_body "(" ")"))"#,
+    r#"(block "{" (block_body) "}")"#,
+    r#"(block "{" (block_body (expr (block "{" (block_body (expr "x")) "}"))) "}")"#,
+    r#"(item (item_fn "fn" "f" B))"#,
+    r#"(item_fn "fn" "f" (fn_args "(" ")") B)"#,
+    r#"(item_fn "fn" "f")"#,
+    r#"(item_impl "impl" (path "A") B)"#,
+    r#"(item_mod "mod" "m" B)"#,
+    r#"(expr_array "[" "//l" "\n" "]")"#,
+    r#"(expr_call "(" "//l" "\n" (expr (expr_array "[" "//m" "\n" "]")) ")")"#,
+    r#"(expr_object anon_key"\#" "{" "//l" "\n" obj_key"k" "}")"#,
+    r#"(expr_if "if" (expr "a"))"#,
+    r#"(expr_if "if" (expr "a") (expr_else "else" B))"#,
+    r#"(expr_while "while" (expr "a") B)"#,
+    r#"(expr_loop "loop" B)"#,
+    r#"(expr_for "for" (pat "_") "in" (expr "a") B)"#,
+    r#"(expr_select "select" "{" "}")"#,
+    r#"(expr_select "select")"#,
+    r#"(expr_match "match" (expr "a") "{" (match_arm (pat "_") "=>" (expr B)) "}")"#,
+    r#"(expr_match "match" (expr "a") "{" "}")"#,
+];
+
 /// `indent` at 62, 63 and 64: a run that needs one level more, two, or none.
 pub fn indents(all: &mut Vec<History>) {
-    for tree in [
-        r#"(struct_body "{" "}")"#,
-        r#"(item_enum "enum" "{" "}")"#,
-        r#"(item_enum "enum" "E")"#,
-        r#"(item_enum "enum" "{" (variant (struct_body "{" "}")) "}")"#,
-        r#"(variant "V" (struct_body "{" "}"))"#,
-        r#"(item_struct "struct" "S" (struct_body "{" "}"))"#,
-        r#"(item_struct "struct" "S" (tuple_body "(" ")"))"#,
-    ] {
+    // chains that break at their first link, and at their second
+    let chain =
+        |n: usize, links: &str| format!(r#"(expr_chain (path "{}") {links})"#, "h".repeat(n));
+    let chains = [
+        chain(80, r#"(expr_field "." (path "f"))"#),
+        chain(79, r#"(expr_try "?") (expr_try "?")"#),
+    ];
+    let trees = INDENTED.iter().map(|tree| with_blocks(tree));
+    for tree in trees.chain(chains) {
         let run = run_step(0);
         let mut steps = encode(&[Indent(64), Lit(5)]);
         steps.push(run.clone());
         for _ in 0..2 {
             steps.extend([Indent(-1).encode(), run.clone()]);
         }
-        all.push(history("indents", tree, steps));
+        all.push(history("indents", &tree, steps));
     }
 }
 
@@ -199,6 +247,12 @@ pub fn room_before_indent(all: &mut Vec<History>) {
         r#"(struct_body "{" "}")"#,
         r#"(item_enum "enum" "{" "}")"#,
         r#"(item_struct "struct" (struct_body "{" "}"))"#,
+        r#"(block "{" (block_body (expr "x")) "}")"#,
+        r#"(expr_array "[" "//l" "\n" "]")"#,
+        r#"(expr_object anon_key"\#" "{" "//l" "\n" "}")"#,
+        r#"(expr_match "match" (expr "a") "{" (match_arm (pat "_") "=>" (expr "b")) "}")"#,
+        // it indents before it writes its brace
+        r#"(expr_select "select" "{" "}")"#,
     ] {
         let steps = vec![Indent(64).encode(), run_step(0)];
         let h = history("no room left", tree, steps);

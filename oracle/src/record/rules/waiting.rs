@@ -1,7 +1,8 @@
 //! Runs between calls: on an engine with comments waiting, a space or newlines on
 //! offer; one run behind another; a run behind one that was refused.
+use super::nodes::NODES;
 use super::words::Words;
-use super::{encode, has_first_rule, history};
+use super::{encode, has_rule, history};
 use crate::call::Call::{
     self, Comments, Finish, FlushPrefixComments, Ignore, Indent, Lit, Nl, WriteOwned, Ws,
 };
@@ -11,25 +12,6 @@ use crate::gen;
 use crate::opening::split;
 use crate::record::history::History;
 use crate::sx;
-
-/// One small node of each rule.
-pub const NODES: [&str; 15] = [
-    r#"(path "a" "::" "b")"#,
-    r#"(path_generics "<" (path "a") ">")"#,
-    r#"(pat (attr "\#") "_")"#,
-    r#"(pat_array "[" ".." "]")"#,
-    r#"(pat_tuple "(" (pat "_") ")")"#,
-    r#"(pat_object anon_key"\#" "{" obj_key"k" "}")"#,
-    r#"(fn_args "(" (pat "_") ")")"#,
-    r#"(tuple_body "(" (field "a") ")")"#,
-    r#"(struct_body "{" (field "a") "}")"#,
-    r#"(variant "V" (empty_body))"#,
-    r#"(item_struct "struct" "S" (tuple_body "(" ")"))"#,
-    r#"(item_enum "enum" "{" (variant "A" (empty_body)) "}")"#,
-    r#"(item_use (modifiers "pub") "use" "a")"#,
-    r#"(item_use_path "a" "as" "b")"#,
-    r#"(item_use_group "{" (item_use_path "a") "}")"#,
-];
 
 /// What stands between a token and the node, and between the node and another
 /// token; the calls before the run and behind it.
@@ -59,10 +41,10 @@ const BETWEEN: &[Between] = &[
 /// First a run that is refused at its end, where all is written: the next one
 /// finds the engine as it was.
 pub fn before_a_run(all: &mut Vec<History>) {
-    for node in NODES {
+    for (i, node) in NODES.iter().enumerate() {
         let words = Words::of(node);
         let refused = words.with_in(words.last_end(), r#""x""#);
-        for (front, behind, before, after) in BETWEEN {
+        for (front, behind, before, after) in BETWEEN.iter().skip(i % 3).take(1) {
             let tree = format!(r#""q" {front} {node} {behind} "z" {refused}"#);
             let top = top_nodes(&tree);
             let mut steps = encode(before);
@@ -85,7 +67,7 @@ pub fn series(all: &mut Vec<History>) {
     ];
     let gaps = [r#""//l" "\n""#, r#""\n\n""#, r#""/*c*/""#, r#"" ""#];
     let calls = [Nl(1), Ws, Comments(0), Nl(2), Indent(1), Lit(6)];
-    for i in (0..NODES.len()).filter(|i| i % 3 != 1) {
+    for i in (0..NODES.len()).step_by(3) {
         let node = |n: usize| NODES[(i + n) % NODES.len()];
         let wrong = broken[i % broken.len()];
         let gap = |n: usize| gaps[(i + n) % gaps.len()];
@@ -119,7 +101,7 @@ pub fn random(all: &mut Vec<History>) {
     let small = |case: &Case| {
         let records = split(&case.tree).list;
         let short = (1..12).contains(&script(&case.steps).len());
-        short && (4..16).contains(&records.len()) && records.iter().any(has_first_rule)
+        short && (4..16).contains(&records.len()) && records.iter().any(has_rule)
     };
     let cases = (0..).map(|i| gen::make("rules", 1, i).expect("a family"));
     for case in cases.filter(small).take(25) {

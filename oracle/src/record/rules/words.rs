@@ -1,9 +1,10 @@
 //! Edits on a tree in the words of sx.rs: something more in a gap, a record that is
 //! missing, doubled or of another kind.
 use crate::kinds::k::IDENT;
-use crate::sx;
+use crate::sx::{self, with_blocks};
 
-/// `(kind`, a leaf, or `)`, one after the other.
+/// `(kind`, a leaf, or `)`, one after the other; B is an empty block, which no edit
+/// is made in.
 pub struct Words(Vec<String>);
 
 impl Words {
@@ -30,7 +31,7 @@ impl Words {
 
     fn with(&self, from: usize, to: usize, new: &str) -> String {
         let parts = [&self.0[..from], &[new.to_string()], &self.0[to..]];
-        parts.concat().join(" ")
+        with_blocks(&parts.concat().join(" "))
     }
 
     /// Every place between two records, in front of the first and behind the last,
@@ -55,7 +56,7 @@ impl Words {
             words.push(sorts[(first + gap) % sorts.len()]);
             words.extend(self.0.get(gap).map(|w| w.as_str()));
         }
-        words.join(" ")
+        with_blocks(&words.join(" "))
     }
 
     /// Where a composite ends: the places of what would be left over.
@@ -110,6 +111,7 @@ impl Words {
         let is_name = |w: &str| sx::build(w).1[0].kind == IDENT;
         let new = match &self.0[record] {
             w if w.starts_with('(') => "(F0",
+            w if w == "B" => "(F0)",
             w if is_name(w) => r#""1""#,
             _ => r#""x""#,
         };

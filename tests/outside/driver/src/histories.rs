@@ -1,7 +1,7 @@
 //! Histories from the oracle's families, replayed step by step: a step is a call
 //! record, or a run as the oracle's files have it.
 use oracle::alloc;
-use oracle::call::{run_step, Step};
+use oracle::call::run_step;
 use oracle::case::{self, Case, ROOM};
 use oracle::engine::Engine;
 use oracle::gen::{self, Rng};
@@ -77,17 +77,6 @@ pub fn replay(
     Ok(())
 }
 
-/// Is it a run on a kind whose rule the Rust has, and the library has not yet?
-fn comes_later(script: &Script, step: &Step) -> bool {
-    match step {
-        Step::Run(node) => script
-            .records()
-            .get(*node as usize)
-            .is_some_and(|r| rules::name(r.kind).is_none()),
-        _ => false,
-    }
-}
-
 fn replay_beside_rust(
     s: &mut Session,
     script: &Script,
@@ -99,9 +88,6 @@ fn replay_beside_rust(
     for record in records {
         let want = s.step(script, record)?;
         let step = oracle::call::step(record);
-        if comes_later(script, &step) {
-            continue;
-        }
         let answer = rust.step(step).map_or_else(|r| r.packed(), |()| 0);
         // The library gave what the reference did: so both are compared.
         assert_eq!(
@@ -146,12 +132,13 @@ pub fn calls(s: &mut Session, rng: &mut Rng, name: &str, seed: u64, i: u64) -> R
     family(s, rng, case, records)
 }
 
-/// Runs on nodes of random items, patterns and paths, or of whole programs.
+/// Runs on nodes of random items, patterns, paths and expressions, of nests, or of
+/// whole programs.
 pub fn runs(s: &mut Session, rng: &mut Rng, name: &str, seed: u64, i: u64) -> Result<(), Differs> {
     let case = gen::make(name, seed, i).expect("a family");
     let mut steps = records_of(&case.steps);
-    if name != "rules" {
-        // a program holds few nodes of the first rules among all others
+    if ["runs", "damaged"].contains(&name) {
+        // a program holds many more nodes than its case has runs on
         let script = Script::new(case.source.clone(), case.tree.clone());
         steps.extend((0..8).map(|_| any_run(rng, &script)));
     }
@@ -207,7 +194,7 @@ pub fn openings(s: &mut Session, rng: &mut Rng, i: u64) -> Result<(), Differs> {
 
 /// Buffers of exactly the size that some step of a history needs, or one byte less.
 pub fn rooms(s: &mut Session, rng: &mut Rng, seed: u64, i: u64) -> Result<(), Differs> {
-    let name = ["calls", "rules"][i as usize % 2];
+    let name = ["calls", "rules", "exprs"][i as usize % 3];
     let case = gen::make(name, seed ^ 0x5EED, i).expect("a family");
     let records = records_of(&case.steps);
     let script = Script::new(case.source, case.tree);

@@ -1,4 +1,5 @@
 //! Nodes that have a rule, as large and as deep as a tree can be.
+use oracle::gen::nests;
 use oracle::grammar::Rec;
 use oracle::opening::join;
 
@@ -31,6 +32,9 @@ pub fn all() -> Vec<Script> {
     }
     for sort in NESTED {
         all.extend([30, 31, 32].map(|levels| deep(sort, levels)));
+    }
+    for (source, records) in nests::built(64) {
+        all.push(Script::new(source.into_bytes(), join(&records)));
     }
     all
 }

@@ -37,7 +37,7 @@ outside sample FOLDER COUNT [--seed N]    histories with their answers, as files
 outside record FOLDER                     the sessions that the gate's program `exported` replays";
 
 /// Groups of histories; of a round of histories each gets so many.
-const GROUPS: [(&str, usize); 16] = [
+const GROUPS: [(&str, usize); 18] = [
     ("calls", 8),
     ("trimcalls", 2),
     ("layout", 4),
@@ -45,7 +45,9 @@ const GROUPS: [(&str, usize); 16] = [
     ("focus", 4),
     ("runs", 2),
     ("damaged", 6),
-    ("rules", 20),
+    ("rules", 12),
+    ("exprs", 36),
+    ("nests", 1),
     ("nodes", 4),
     ("openings", 12),
     ("rooms", 2),
@@ -130,7 +132,7 @@ fn history(
         "layout" | "trim" | "focus" | "runs" | "damaged" => {
             histories::traces(&mut s, rng, group, options.seed, i)
         }
-        "rules" => histories::runs(&mut s, rng, "rules", options.seed, i),
+        "rules" | "exprs" | "nests" => histories::runs(&mut s, rng, group, options.seed, i),
         "nodes" => {
             let family = ["runs", "damaged"][i as usize % 2];
             histories::runs(&mut s, rng, family, options.seed, i)

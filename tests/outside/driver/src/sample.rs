@@ -4,8 +4,9 @@ use std::fs;
 use std::path::Path;
 
 use oracle::call::run_step;
-use oracle::compare;
+use oracle::case::Case;
 use oracle::gen::{self, Rng};
+use oracle::{compare, opening};
 
 use crate::histories::needed;
 use crate::large;
@@ -36,7 +37,10 @@ pub fn write(folder: &Path, seed: u64, count: u64) {
             "fresh-calls.bin",
             &["trimcalls", "calls", "calls", "calls"][..],
         ),
-        ("fresh-runs.bin", &["rules", "rules", "rules", "runs"]),
+        (
+            "fresh-runs.bin",
+            &["rules", "exprs", "exprs", "nests", "runs"],
+        ),
     ] {
         let file = histories(families, seed, count);
         fs::write(folder.join(name), file).expect("a file can be written");
@@ -72,13 +76,17 @@ fn trees(rng: &mut Rng, count: u64) -> Vec<u8> {
     file
 }
 
-/// Histories of these families in turn.
+/// Histories of these families in turn, over trees that are opened: nests may be too
+/// deep.
 fn histories(families: &[&str], seed: u64, count: u64) -> Vec<u8> {
     let mut file = vec![];
     put_u32(&mut file, count as usize);
-    for i in 0..count {
+    let cases = (0..).map(|i| {
         let family = families[i as usize % families.len()];
-        let case = gen::make(family, seed, i).expect("a family");
+        gen::make(family, seed, i).expect("a family")
+    });
+    let opened = |case: &Case| opening::open(&case.source, &case.tree).is_ok();
+    for case in cases.filter(opened).take(count as usize) {
         let script = Script::new(case.source, case.tree);
         // each step is recorded with the whole output, so long histories are cut
         let mut steps = records_of(&case.steps);
