@@ -23,6 +23,11 @@ ghost use Rattle.exprs.specs.Rule.{Rule};
 ghost use Rattle.exprs.specs.Chain.{chain};
 ghost use Rattle.exprs.specs.Lay.{Lays, Parses};
 
+// The tokens around a call's arguments.
+const OPEN: u8 = bytes::PAREN_OPEN;
+
+const CLOSE: u8 = bytes::PAREN_CLOSE;
+
 impl Lay {
     // Its head, then links, each on its line or on a new one.
     pub fn chain(
@@ -72,17 +77,7 @@ impl Lay {
             bytes::EXPR_TRY => try_link(src, table, fmt, queue, out, k),
             bytes::EXPR_AWAIT => await_link(src, table, fmt, queue, out, k),
             bytes::EXPR_FIELD => field_link(src, table, fmt, queue, out, k),
-            bytes::EXPR_CALL => Lay::exprs(
-                src,
-                table,
-                fmt,
-                queue,
-                out,
-                k,
-                bytes::PAREN_OPEN,
-                bytes::PAREN_CLOSE,
-                depth - 1,
-            ),
+            bytes::EXPR_CALL => Lay::exprs(src, table, fmt, queue, out, k, OPEN, CLOSE, depth - 1),
             bytes::EXPR_INDEX => {
                 let mut p = records_of(table, k);
                 open_index(src, table, fmt, queue, out, &mut p);

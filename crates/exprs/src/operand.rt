@@ -2,6 +2,8 @@
 use crate::Lay;
 use gaps::statements::group_end;
 use kinds::bytes;
+use kinds::bytes::PAREN_CLOSE;
+use kinds::bytes::PAREN_OPEN;
 use meaning::call::Hint;
 use output::calls::comments;
 use parts::leads::before_value;
@@ -94,43 +96,16 @@ impl Lay {
         ensures { λ _. ⌜ Parses src table fmt queue out depth (λ x lay. group x lay empty) k ⌝ }
     {
         let mut p = records_of(table, k);
-        group_end(
-            src,
-            table,
-            fmt,
-            queue,
-            out,
-            &mut p,
-            empty,
-            bytes::PAREN_OPEN,
-        );
+        group_end(src, table, fmt, queue, out, &mut p, empty, PAREN_OPEN);
         if next_expr(table, &p) {
             let n = pump(table, fmt, &mut p);
             Lay::expr(src, table, fmt, queue, out, n, true, depth);
-            group_end(
-                src,
-                table,
-                fmt,
-                queue,
-                out,
-                &mut p,
-                empty,
-                bytes::PAREN_CLOSE,
-            );
+            group_end(src, table, fmt, queue, out, &mut p, empty, PAREN_CLOSE);
             left_over(table, fmt, &p);
             return;
         }
         comments(src, table, fmt, queue, out, Hint::Infix);
-        group_end(
-            src,
-            table,
-            fmt,
-            queue,
-            out,
-            &mut p,
-            empty,
-            bytes::PAREN_CLOSE,
-        );
+        group_end(src, table, fmt, queue, out, &mut p, empty, PAREN_CLOSE);
         left_over(table, fmt, &p);
     }
 
