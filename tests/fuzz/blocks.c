@@ -85,6 +85,7 @@ static void tell(void) {
     printf("blocks of the library: %zu of %zu reached\n", blocks_reached, block_count);
     tell_answers("calls", answers);
     tell_answers("runs", run_answers);
+    tell_answers("layouts", layout_answers);
     const char *missed = getenv("SAVETNUOK_MISSED");
     FILE *file = missed != NULL ? fopen(missed, "w") : NULL;
     for (size_t i = 0; file != NULL && i < block_count; i++)

@@ -1,5 +1,5 @@
 /*
- * What is checked after each call, from outside (runs.c: after each run):
+ * What is checked after each call, from outside (runs.c, layouts.c: after each run and layout):
  *
  *   Demand 1   The answer is 0 or a refusal of the header's list, its place in range. A refused call changes no byte of
  *              state or buffer. A success touches no byte below the former output length or beyond the new one, and
@@ -17,7 +17,7 @@
 #include "savetnuok.h"
 #include "states.h"
 
-uint64_t answers[13], run_answers[13];
+uint64_t answers[13], run_answers[13], layout_answers[13];
 
 /* ---- answers ---- */
 
@@ -118,23 +118,6 @@ static uint32_t let_out(const struct lent *l, const struct queue *q) {
     return n;
 }
 
-/* Takes a text off the written bytes, spaces and newlines aside on both sides. */
-static void take_text(struct bytes *written, const uint8_t *text, size_t len) {
-    for (; len > 0; text++, len--) {
-        if (*text == ' ' || *text == '\n')
-            continue;
-        while (written->len > 0 && (*written->at == ' ' || *written->at == '\n'))
-            written->at++, written->len--;
-        HOLDS(written->len > 0 && *written->at == *text, "another text was written");
-        written->at++, written->len--;
-    }
-}
-
-static void take_comment(const struct lent *l, struct bytes *written, const uint8_t *c) {
-    struct bytes text = comment_text(l->source, c);
-    take_text(written, text.at, text.len);
-}
-
 static void take_own_text(const struct lent *l, struct bytes *written) {
     static const char *const literals[] = {"{}", "||", "()", "{", "}", ",", ";", ":"};
     uint8_t kind = l->record.at[0];
@@ -156,7 +139,7 @@ static void comments_are_kept(const struct lent *l, const uint8_t *old, struct b
     HOLDS(memcmp(comment(l->state.at, 0), q.at + out * SAVETNUOK_COMMENT_SIZE, waiting * SAVETNUOK_COMMENT_SIZE) == 0,
           "other comments wait");
     for (uint32_t k = 0; k < out; k++)
-        take_comment(l, &written, q.at + k * SAVETNUOK_COMMENT_SIZE);
+        take_comment(l->source, &written, q.at + k * SAVETNUOK_COMMENT_SIZE);
     take_own_text(l, &written);
     for (size_t i = 0; i < written.len; i++)
         HOLDS(written.at[i] == ' ' || written.at[i] == '\n', "more than white space was written");

@@ -1,13 +1,15 @@
 /*
- * The fuzz target: reads an input as a source, a tree, a buffer's length and a history of calls and runs, and makes
- * them, each checked (check.c, runs.c).
+ * The fuzz target: reads an input as a source, a tree, a buffer's length and a history of calls, runs and layouts, and
+ * makes them, each checked (check.c, runs.c, layouts.c).
  *
  * First byte even: the source and the tree are bytes of the input.
  *     source length, tree length, buffer length (2 bytes each), the source, the tree, the history
  * First byte odd: they are built by instructions, so that most trees are good, and a few bytes make a large one.
  *     buffer length (2 bytes), instructions up to END, the history
+ * First byte 2 or 3 by four: the tree stands in a block body, without which every layout is refused at once.
  * The history: a byte below A0 is a call's kind, with its body behind it (0B a finish, any other the rest by ten); one
- * below C0 a run, with its node behind it (2 bytes); a byte from C0 on is a change to what is lent.
+ * below B8 a run, with its node behind it (2 bytes); one below C0 a layout; a byte from C0 on is a change to what is
+ * lent.
  */
 #define _GNU_SOURCE
 #include <stdlib.h>
@@ -55,6 +57,27 @@ static struct bytes put(struct memory m, const uint8_t *bytes, size_t len) {
 
 /* ---- the source and the tree ---- */
 
+static uint32_t records_of(const struct lent *l) {
+    uint32_t n = 0;
+    for (size_t at = 0; at < l->tree.len; n++)
+        at += l->tree.at[at] < 0x80 ? 9 : 13;
+    return n;
+}
+
+/* A block body around the whole tree. */
+static void wrap(struct lent *l) {
+    static uint8_t bytes[TREE_MOST];
+    size_t len = l->tree.len;
+    if (len + 13 > sizeof bytes)
+        return;
+    memcpy(bytes + 13, l->tree.at, len);
+    bytes[0] = SAVETNUOK_KIND_BLOCK_BODY;
+    put_word(bytes + 1, 0);
+    put_word(bytes + 5, l->source.len);
+    put_word(bytes + 9, records_of(l));
+    l->tree = put(tree_memory, bytes, len + 13);
+}
+
 static void build(struct lent *l) {
     struct bytes source, tree;
     build_script(&source, &tree);
@@ -76,14 +99,8 @@ static void raw(struct lent *l, size_t source_len, size_t tree_len) {
 /* The changes, by the byte's rest by eight. SCALAR: one of the eight words in front, or of the first comment's. */
 enum { RAW_RECORD, STATE_WORD, SCALAR, ROOM, STATE_LENGTH, OPEN_AGAIN, SOURCE_BYTE, TREE_BYTE, CHANGES };
 #define FIRST_RUN 0xA0
+#define FIRST_LAYOUT 0xB8
 #define FIRST_CHANGE 0xC0
-
-static uint32_t records_of(const struct lent *l) {
-    uint32_t n = 0;
-    for (size_t at = 0; at < l->tree.len; n++)
-        at += l->tree.at[at] < 0x80 ? 9 : 13;
-    return n;
-}
 
 /* Mostly small, as each call is compared over the whole buffer. */
 static size_t take_room(void) {
@@ -174,6 +191,8 @@ static void run(struct lent *l) {
     go_on(l, checked_run(l, node));
 }
 
+static void layout(struct lent *l) { go_on(l, checked_layout(l)); }
+
 static void call_of_kind(struct lent *l, uint8_t kind) {
     /* of a body of one byte: those that are listed, and one or two more */
     static const uint16_t values[] = {[SAVETNUOK_LIT] = 10,
@@ -216,6 +235,7 @@ static void with_state_length(struct lent *l, size_t len) {
     checked_open(l);
     call_of_kind(l, 1 + take_byte() % SAVETNUOK_FINISH);
     run(l);
+    layout(l);
     l->state = put(state_memory, longer, SAVETNUOK_STATE_SIZE);
 }
 
@@ -256,6 +276,8 @@ static void history(struct lent *l, int most) {
         uint32_t what = take_byte();
         if (what >= FIRST_CHANGE)
             change(l, what % CHANGES);
+        else if (what >= FIRST_LAYOUT)
+            layout(l);
         else if (what >= FIRST_RUN)
             run(l);
         else
@@ -286,7 +308,8 @@ int LLVMFuzzerTestOneInput(const uint8_t *data, size_t size) {
         memset(fill, 0xEE, sizeof fill);
         memset(other, 0x77, sizeof other);
     }
-    int built = take_byte() % 2;
+    uint32_t first = take_byte();
+    int built = first % 2;
     uint32_t source_len = built ? 0 : take_two(), tree_len = built ? 0 : take_two();
     l.out = put(out_memory, fill, take_room());
     l.state = put(state_memory, other, sizeof other);
@@ -295,6 +318,8 @@ int LLVMFuzzerTestOneInput(const uint8_t *data, size_t size) {
         build(&l);
     else
         raw(&l, source_len, tree_len);
+    if (first % 4 > 1)
+        wrap(&l);
     uint64_t answer = checked_open(&l);
     if (answer != 0)
         memset(l.state.at, 0, l.state.len);

@@ -1,5 +1,5 @@
-/* What a call or run is refused with before its own steps, from the header's words: the third time, beside the library
- * and the oracle's driver. */
+/* What a call, run or layout is refused with before its own steps, from the header's words: the third time, beside the
+ * library and the oracle's driver. */
 #include "refusals.h"
 #include "savetnuok.h"
 #include "states.h"
@@ -126,6 +126,18 @@ uint64_t refusal_before_its_rule(const struct lent *l, uint32_t node) {
     if (node >= records_of(l->tree))
         return refusal(SAVETNUOK_NO_NODE, node);
     return has_a_rule(l->tree.at[record_at(l->tree, node)]) ? 0 : refusal(SAVETNUOK_NO_RULE, node);
+}
+
+uint64_t refusal_before_its_calls(const struct lent *l) {
+    uint64_t lent = refusal_of_what_is_lent(l);
+    if (lent != 0)
+        return lent;
+    uint64_t finished = refusal_by_the_finish(l);
+    if (finished != 0)
+        return finished;
+    int whole = l->tree.len > 0 && l->tree.at[0] == SAVETNUOK_KIND_BLOCK_BODY &&
+                below(l->tree, 0) == records_of(l->tree) - 1;
+    return whole ? 0 : refusal(SAVETNUOK_WRONG_KIND, 0);
 }
 
 /* The new indent, or -1 where it would leave its bounds. */

@@ -1,4 +1,4 @@
-/* Which refusal a call meets before its own steps, and a run before its rule's. */
+/* Which refusal a call meets before its own steps, a run before its rule's, and a layout before its first call. */
 #ifndef REFUSALS_H
 #define REFUSALS_H
 
@@ -9,6 +9,9 @@ uint64_t refusal_before_its_steps(const struct lent *l);
 
 /* The same of a run on a node; 0 where the rule decides. */
 uint64_t refusal_before_its_rule(const struct lent *l, uint32_t node);
+
+/* The same of a layout. */
+uint64_t refusal_before_its_calls(const struct lent *l);
 
 int has_a_rule(uint8_t kind);
 

@@ -15,6 +15,7 @@
 
 #include "check.h"
 #include "refusals.h"
+#include "runs.h"
 #include "savetnuok.h"
 #include "states.h"
 
@@ -25,8 +26,7 @@ static int is_zero(struct bytes b, size_t from) {
     return 1;
 }
 
-/* Of a rule and its calls, on the state that was lent. */
-static void refusal_of_the_rule_fits(const struct lent *l, uint64_t answer, uint32_t node) {
+void refusal_of_the_rule_fits(const struct lent *l, uint64_t answer, uint32_t node) {
     uint32_t number = savetnuok_number(answer), place = savetnuok_place(answer);
     uint32_t last = node + below(l->tree, record_at(l->tree, node));
     switch (number) {
@@ -144,12 +144,12 @@ static void success_is_whole(const struct lent *l, const uint8_t *old, const uin
     comments_are_kept(l, old, written, node);
 }
 
-static void refused_is_hidden(const struct lent *l, const struct lent *before, const uint8_t *old_out) {
+void refused_is_hidden(const struct lent *l, const struct lent *before, const uint8_t *old_out) {
     size_t from = shape_is_good(before) ? word(before->state.at, SAVETNUOK_STATE_LENGTH) : l->out.len;
     from = from < l->out.len ? from : l->out.len;
-    HOLDS(same(l->state, before->state.at, 0, l->state.len), "a refused run changed the state");
-    HOLDS(same(l->out, old_out, 0, from), "a refused run changed bytes below the former length");
-    HOLDS(is_zero(l->out, from), "a refused run left bytes behind");
+    HOLDS(same(l->state, before->state.at, 0, l->state.len), "a refused run or layout changed the state");
+    HOLDS(same(l->out, old_out, 0, from), "a refused run or layout changed bytes below the former length");
+    HOLDS(is_zero(l->out, from), "a refused run or layout left bytes behind");
 }
 
 uint64_t checked_run(struct lent *l, uint32_t node) {

@@ -62,6 +62,22 @@ struct bytes comment_text(struct bytes source, const uint8_t *c) {
     return (struct bytes){source.at + start, end - start};
 }
 
+void take_text(struct bytes *written, const uint8_t *text, size_t len) {
+    for (; len > 0; text++, len--) {
+        if (*text == ' ' || *text == '\n')
+            continue;
+        while (written->len > 0 && (*written->at == ' ' || *written->at == '\n'))
+            written->at++, written->len--;
+        HOLDS(written->len > 0 && *written->at == *text, "another text was written");
+        written->at++, written->len--;
+    }
+}
+
+void take_comment(struct bytes source, struct bytes *written, const uint8_t *c) {
+    struct bytes text = comment_text(source, c);
+    take_text(written, text.at, text.len);
+}
+
 uint8_t *copy_of(struct bytes b) {
     uint8_t *copy = malloc(b.len + 1);
     HOLDS(copy != NULL, "no memory");

@@ -30,6 +30,11 @@ uint32_t below(struct bytes tree, size_t at);
 /* A comment's text as it is written: the end of a line comment is trimmed. */
 struct bytes comment_text(struct bytes source, const uint8_t *c);
 
+/* Takes a text, or a comment's, off the head of the written bytes, where it must stand; spaces and newlines aside on
+   both sides. */
+void take_text(struct bytes *written, const uint8_t *text, size_t len);
+void take_comment(struct bytes source, struct bytes *written, const uint8_t *c);
+
 uint8_t *copy_of(struct bytes b);
 int same(struct bytes b, const uint8_t *copy, size_t from, size_t to);
 

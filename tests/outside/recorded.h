@@ -79,9 +79,12 @@ static struct bytes read_file(const char *name) {
     return got;
 }
 
-/* Is a step of runs.bin a run, and on which node? */
+/* Is a step of runs.bin a run, and on which node? Is it a layout? */
 #define RUN_STEP 0xE0
+#define LAYOUT_STEP 0xE1
 static int is_run(struct bytes step) { return step.len == 5 && step.at[0] == RUN_STEP; }
+
+static int is_layout(struct bytes step) { return step.len == 1 && step.at[0] == LAYOUT_STEP; }
 
 static uint32_t run_node(struct bytes step) { return savetnuok_word(step.at + 1); }
 

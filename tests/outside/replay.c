@@ -13,9 +13,9 @@
 #define FILL 0xEE
 #define DIFFERENCES_MOST 10
 
-static unsigned long every = 1, openings, calls, runs, differences;
+static unsigned long every = 1, openings, calls, runs, layouts, differences;
 static int measure_stack, with_runs;
-static size_t open_stack, call_stack, run_stack;
+static size_t open_stack, call_stack, run_stack, layout_stack;
 
 /* ---- the stack: painted below the caller's frame before a call, and looked at behind it ---- */
 
@@ -83,6 +83,24 @@ static uint64_t run_it(struct engine *e) {
     return answer;
 }
 
+static uint64_t layout_it(struct engine *e) {
+    if (measure_stack)
+        paint();
+    uint64_t answer = savetnuok_layout(e->source.at, e->source.len, e->tree.at, e->tree.len, e->state.at, e->state.len,
+                                       e->out.at, e->out.len);
+    if (measure_stack)
+        note(&layout_stack, touched());
+    layouts++;
+    return answer;
+}
+
+/* A run or a layout where the record is the step of one, and the file has them. */
+static uint64_t step_it(struct engine *e) {
+    if (with_runs && is_run(e->record))
+        return run_it(e);
+    return with_runs && is_layout(e->record) ? layout_it(e) : call_it(e);
+}
+
 static void compare(const char *what, unsigned long number, int same) {
     if (same)
         return;
@@ -123,7 +141,7 @@ static void one_tree(unsigned long number) {
 }
 
 /* The recorded state: eight words, and four for each waiting comment; zero from there on. The eighth word is no part of
-   it: it tells whether the bytes behind the output are zero, which a refused run makes them. */
+   it: it tells whether the bytes behind the output are zero, which a refused run or layout makes them. */
 static int take_state(uint8_t *state) {
     memset(state, 0, SAVETNUOK_STATE_SIZE);
     memcpy(state, take(32), 32);
@@ -144,7 +162,7 @@ static void one_call(struct engine *e, unsigned long number, int run) {
     size_t len = savetnuok_word(want + SAVETNUOK_STATE_LENGTH);
     const uint8_t *output = take(len);
     if (run) {
-        uint64_t got = with_runs && is_run(e->record) ? run_it(e) : call_it(e);
+        uint64_t got = step_it(e);
         compare("answer", number, got == answer);
         compare("state", number, memcmp(e->state.at, want, sizeof want) == 0);
         compare("output", number, len == 0 || memcmp(e->out.at, output, len) == 0);
@@ -190,11 +208,15 @@ int main(int argc, char **argv) {
             fail("--every", "needs a number");
         i++;
     }
-    printf("  %lu openings, %lu calls and %lu runs replayed, %lu differ\n", openings, calls, runs, differences);
+    printf("  %lu openings, %lu calls, %lu runs and %lu layouts replayed, %lu differ\n", openings, calls, runs, layouts,
+           differences);
     if (measure_stack)
-        printf("  stack below the caller's frame: opening %zu bytes, a call %zu, a run %zu; the header says %d\n",
-               open_stack, call_stack, run_stack, SAVETNUOK_STACK_SIZE);
-    if (open_stack > SAVETNUOK_STACK_SIZE || call_stack > SAVETNUOK_STACK_SIZE || run_stack > SAVETNUOK_STACK_SIZE) {
+        printf("  stack below the caller's frame: opening %zu bytes, a call %zu, a run %zu, a layout %zu; "
+               "the header says %d\n",
+               open_stack, call_stack, run_stack, layout_stack, SAVETNUOK_STACK_SIZE);
+    size_t deepest = 0;
+    note(&deepest, open_stack), note(&deepest, call_stack), note(&deepest, run_stack), note(&deepest, layout_stack);
+    if (deepest > SAVETNUOK_STACK_SIZE) {
         printf("DIFFERS: the stack is deeper than the header says\n");
         return 1;
     }

@@ -25,6 +25,15 @@ extern "C" {
         node: u32,
         times: u32,
     ) -> u64;
+    fn bench_layouts(
+        source: *const u8,
+        source_len: usize,
+        tree: *const u8,
+        tree_len: usize,
+        out: *mut u8,
+        out_len: usize,
+        times: u32,
+    ) -> u64;
     fn savetnuok_open(
         source: *const u8,
         source_len: usize,
@@ -55,6 +64,16 @@ extern "C" {
         out: *mut u8,
         out_len: usize,
         node: u32,
+    ) -> u64;
+    fn savetnuok_layout(
+        source: *const u8,
+        source_len: usize,
+        tree: *const u8,
+        tree_len: usize,
+        state: *mut u8,
+        state_len: usize,
+        out: *mut u8,
+        out_len: usize,
     ) -> u64;
 }
 
@@ -161,6 +180,36 @@ pub fn runs(source: &[u8], tree: &[u8], out: &mut [u8], node: u32, times: u32) -
             out.as_mut_ptr(),
             out.len(),
             node,
+            times,
+        )
+    }
+}
+
+pub fn public_layout(source: &[u8], tree: &[u8], state: &mut [u8; STATE], out: &mut [u8]) -> u64 {
+    unsafe {
+        savetnuok_layout(
+            source.as_ptr(),
+            source.len(),
+            tree.as_ptr(),
+            tree.len(),
+            state.as_mut_ptr(),
+            STATE,
+            out.as_mut_ptr(),
+            out.len(),
+        )
+    }
+}
+
+/// So many whole layouts, each on a fresh engine, over a tree that is decoded once.
+pub fn layouts(source: &[u8], tree: &[u8], out: &mut [u8], times: u32) -> u64 {
+    unsafe {
+        bench_layouts(
+            source.as_ptr(),
+            source.len(),
+            tree.as_ptr(),
+            tree.len(),
+            out.as_mut_ptr(),
+            out.len(),
             times,
         )
     }

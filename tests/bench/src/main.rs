@@ -3,9 +3,11 @@
 mod clock;
 mod exported;
 mod histories;
+mod layouts;
 mod nodes;
 mod public;
 mod rust;
+mod scripts;
 mod stack;
 mod tables;
 mod texts;
@@ -19,6 +21,7 @@ const TABLES: &[(&str, fn())] = &[
     ("public", public::calls),
     ("growth", public::growth),
     ("runs", public::runs),
+    ("layouts", layouts::table),
     ("stack", stack::table),
 ];
 

@@ -135,9 +135,9 @@ fn run(source: &[u8], tree: &[u8], out: &mut [u8]) -> u64 {
     u32::from_le_bytes(state[..4].try_into().unwrap()) as u64
 }
 
-/// How many runs are made over one decoded tree of so many records; the decoding is
-/// shared out among them.
-fn times(records: usize) -> u32 {
+/// How many runs or layouts are made over one decoded tree of so many records; the
+/// decoding is shared out among them.
+pub fn times(records: usize) -> u32 {
     (262_144 / records as u32).clamp(16, 256)
 }
 

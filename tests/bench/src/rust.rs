@@ -50,10 +50,24 @@ pub fn calls(
 
 /// A run on record 0 from a fresh engine on: the output's length.
 pub fn run(source: &str, tree: &Tree, buffer: &mut alloc::String) -> Result<usize, Refusal> {
+    step(source, tree, buffer, Step::Run(0))
+}
+
+/// A whole layout from a fresh engine on: the output's length.
+pub fn layout(source: &str, tree: &Tree, buffer: &mut alloc::String) -> Result<usize, Refusal> {
+    step(source, tree, buffer, Step::Layout)
+}
+
+fn step(
+    source: &str,
+    tree: &Tree,
+    buffer: &mut alloc::String,
+    step: Step<'_>,
+) -> Result<usize, Refusal> {
     buffer.text.clear();
     let mut diagnostics = Diagnostics;
     let mut engine = Engine::new(source, tree, buffer, &mut diagnostics);
-    engine.step(Step::Run(0))?;
+    engine.step(step)?;
     Ok(engine.fmt.len())
 }
 

@@ -1,11 +1,11 @@
 //! Cases at the bounds: queues around 256, sizes around every limit, empty slices,
 //! buffers around 4 GiB.
-use oracle::call::run_step;
+use oracle::call::{layout_step, run_step};
 use oracle::gen::{self, Rng};
 use oracle::grammar::Rec;
 use oracle::opening::join;
 
-use crate::histories::{needed, replay, with_runs};
+use crate::histories::{needed, replay, with_layouts, with_runs};
 use crate::large;
 use crate::lent::{self, STATE};
 use crate::reference::Script;
@@ -58,7 +58,8 @@ pub fn queues(s: &mut Session, rng: &mut Rng) -> Result<(), Differs> {
         run_step(0)
     });
     let more = gen::history(rng, script.records().len(), 30, 10);
-    records.extend(with_runs(rng, &script, more));
+    let more = with_runs(rng, &script, more);
+    records.extend(with_layouts(rng, more));
     let room = needed(&script, &records) + rng.below(20);
     replay(s, rng, &script, room, &records)
 }
@@ -114,11 +115,18 @@ pub fn all_sizes(s: &mut Session, rng: &mut Rng) -> Result<(), Differs> {
         records.extend([0, 1, 2, last, last + 1, u32::MAX].map(run_step));
         records.push(vec![]);
         records.push(vec![0x08; 1_000]);
+        records.push(layout_step());
         records.push(vec![0x0B]);
         records.push(vec![0x08]);
         records.push(run_step(0));
+        records.push(layout_step());
         for room in [0, 1, 66_000, 140_000] {
             replay(s, rng, &script, room, &records)?;
+        }
+    }
+    for script in large::in_bodies() {
+        for room in [1, 140_000] {
+            replay(s, rng, &script, room, &[layout_step()])?;
         }
     }
     state_lengths(s)
@@ -134,17 +142,26 @@ fn state_lengths(s: &mut Session) -> Result<(), Differs> {
         s.open(&script)?;
         s.call(&script, &[0x08])?;
         s.run(&script, 0)?;
+        s.layout(&script)?;
         s.lend_state(vec![0xFF; len]);
         s.call(&script, &[])?;
         s.run(&script, 0)?;
+        s.layout(&script)?;
     }
     Ok(())
 }
 
 /// Every value that a flag, the indent and the count may have, near their bounds.
 pub fn all_words(s: &mut Session) -> Result<(), Differs> {
-    let path = [Rec::new(0xB0, 0, 4, 2), leaf(3, 0, 2), leaf(1, 2, 4)];
-    let script = Script::new("é//".into(), join(&path));
+    // a path in an expression, in a body
+    let records = [
+        Rec::new(0x80, 0, 4, 4),
+        Rec::new(0x96, 0, 4, 3),
+        Rec::new(0xB0, 0, 4, 2),
+        leaf(3, 0, 2),
+        leaf(1, 2, 4),
+    ];
+    let script = Script::new("é//".into(), join(&records));
     s.lend(&script);
     s.lend_room(600);
     let values = (0..=300).chain([511, 512, 65_536, 1 << 24, 1 << 31, u32::MAX]);
@@ -156,8 +173,10 @@ pub fn all_words(s: &mut Session) -> Result<(), Differs> {
             lent::put_word(&mut state, number, value);
             s.lend_state(state.clone());
             s.call(&script, &[0x0B])?;
-            s.lend_state(state);
-            s.run(&script, 0)?;
+            for step in [run_step(2), layout_step()] {
+                s.lend_state(state.clone());
+                s.step(&script, &step)?;
+            }
         }
     }
     Ok(())

@@ -1,9 +1,10 @@
 //! Histories in which what is lent changes between the calls: words of the state,
 //! its length, the buffer, the source and the tree.
+use oracle::call::layout_step;
 use oracle::gen::{self, Rng};
 use oracle::opening::join;
 
-use crate::histories::with_runs;
+use crate::histories::{with_layouts, with_runs};
 use crate::lent::{self, of_comment, put_word, word, MOST_WAITING, SCALARS, STATE};
 use crate::reference::Script;
 use crate::session::{Differs, Session};
@@ -17,6 +18,13 @@ pub fn script(rng: &mut Rng) -> Script {
     let trim_all = rng.one_in(4);
     let (source, records) = gen::small_tree(rng, trim_all);
     Script::new(source.into_bytes(), join(&records))
+}
+
+/// A small program.
+fn program(rng: &mut Rng) -> Script {
+    let sort = rng.below(gen::FOCUS) as u64;
+    let case = gen::make("focus", rng.next(), sort).expect("a family");
+    Script::new(case.source, case.tree)
 }
 
 /// Numbers around every bound that a word may be held against.
@@ -111,9 +119,13 @@ fn change_out(s: &mut Session, rng: &mut Rng) {
     s.lend_out(out);
 }
 
-/// Calls and runs, with something changed before every second one.
-pub fn lent(s: &mut Session, rng: &mut Rng) -> Result<(), Differs> {
-    let scripts = [script(rng), script(rng)];
+/// Calls and runs, with something changed before every second one; layouts too,
+/// where they are wanted.
+pub fn lent(s: &mut Session, rng: &mut Rng, layouts: bool) -> Result<(), Differs> {
+    let scripts = match layouts {
+        true => [program(rng), program(rng)],
+        false => [script(rng), script(rng)],
+    };
     let mut at = 0;
     s.lend(&scripts[0]);
     let room = rng.pick(&[0, 5, 40, 400, 4_000]);
@@ -121,7 +133,11 @@ pub fn lent(s: &mut Session, rng: &mut Rng) -> Result<(), Differs> {
     s.lend_state(vec![0; STATE]);
     let mut good = s.state.clone();
     let records = gen::history(rng, scripts[0].records().len(), 50, 20);
-    for record in with_runs(rng, &scripts[0], records) {
+    let mut records = with_runs(rng, &scripts[0], records);
+    if layouts {
+        records = with_layouts(rng, records);
+    }
+    for record in records {
         match rng.below(10) {
             0..=3 => change_state(s, rng, &scripts[at]),
             4 => change_out(s, rng),
@@ -131,7 +147,11 @@ pub fn lent(s: &mut Session, rng: &mut Rng) -> Result<(), Differs> {
             }
             _ => {}
         }
-        if s.step(&scripts[at], &record)?.answer == 0 {
+        let done = s.step(&scripts[at], &record)?.answer == 0;
+        if done && record == layout_step() {
+            // an engine that is finished would refuse all that follows
+            s.lend_state(good.clone());
+        } else if done {
             good = s.state.clone();
         } else if rng.one_in(2) {
             s.lend_state(good.clone());

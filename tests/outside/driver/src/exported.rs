@@ -26,12 +26,16 @@ pub type Run = unsafe extern "C" fn(
     u32,
 ) -> u64;
 
+pub type Layout =
+    unsafe extern "C" fn(*const u8, usize, *const u8, usize, *mut u8, usize, *mut u8, usize) -> u64;
+
 /// What is tested: the exported functions, or a stand-in with a fault (faults.rs).
 #[derive(Clone, Copy)]
 pub struct Library {
     pub open: Open,
     pub call: Call,
     pub run: Run,
+    pub layout: Layout,
 }
 
 mod savetnuok {
@@ -67,6 +71,16 @@ mod savetnuok {
             out_len: usize,
             node: u32,
         ) -> u64;
+        pub fn savetnuok_layout(
+            source: *const u8,
+            source_len: usize,
+            tree: *const u8,
+            tree_len: usize,
+            state: *mut u8,
+            state_len: usize,
+            out: *mut u8,
+            out_len: usize,
+        ) -> u64;
     }
 }
 
@@ -74,4 +88,5 @@ pub const SAVETNUOK: Library = Library {
     open: savetnuok::savetnuok_open,
     call: savetnuok::savetnuok_call,
     run: savetnuok::savetnuok_run,
+    layout: savetnuok::savetnuok_layout,
 };

@@ -6,6 +6,7 @@ use std::sync::atomic::{AtomicUsize, Ordering};
 use oracle::docengine::Trim;
 
 use crate::exported::Library;
+use crate::faulty_layouts::layout;
 use crate::faulty_runs::run;
 use crate::lent::{self, of_comment, put_word, word, STATE};
 use crate::reference::{self, By, Script, Want};
@@ -54,7 +55,13 @@ faults!(
     RunTakesTheNodeBehind,
     RunSwapsPrefixAndSuffix,
     RunLosesAComma,
-    RunSetsABlankLineForANewLine
+    RunSetsABlankLineForANewLine,
+    LayoutForgetsTheCommentsInFront,
+    LayoutForgetsTheFinish,
+    LayoutTakesATreeWithRecordsBehind,
+    LayoutZeroesNothing,
+    LayoutNamesTheLengthItBeganWith,
+    LayoutOfALongTreeLosesAComma
 );
 
 static FAULT: AtomicUsize = AtomicUsize::new(0);
@@ -66,7 +73,12 @@ pub fn fault() -> Fault {
 /// The library with this fault.
 pub fn with(fault: Fault) -> Library {
     FAULT.store(fault as usize, Ordering::Relaxed);
-    Library { open, call, run }
+    Library {
+        open,
+        call,
+        run,
+        layout,
+    }
 }
 
 pub unsafe fn bytes<'a>(at: *const u8, len: usize) -> &'a [u8] {

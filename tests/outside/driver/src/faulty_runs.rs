@@ -20,26 +20,42 @@ pub unsafe extern "C" fn run(
     );
     let old = bytes(state, state_len).to_vec();
     let want = served(&script, &old, out_len, node);
-    let length = match state_len {
-        STATE => (word(&old, lent::LENGTH) as usize).min(out_len),
-        _ => 0,
-    };
-    if let Some(new) = &want.state {
-        out.wrapping_add(length)
-            .copy_from(want.written.as_ptr(), want.written.len());
-        state.copy_from(new.as_ptr(), STATE);
-        return want.answer;
-    }
-    out.wrapping_add(length)
-        .copy_from(want.hidden.as_ptr(), want.hidden.len());
-    if let Some((from, to)) = zeroed(&want, length, out_len) {
-        out.wrapping_add(from).write_bytes(0, to - from);
-    }
+    let length = former_length(&old, out_len);
+    left(&want, length, state, out, zeroed(&want, length, out_len));
     if fault() == Fault::RunWritesTheStateWhereItRefuses && !want.hidden.is_empty() {
         let length = (length + want.hidden.len()) as u32;
         state.copy_from(length.to_le_bytes().as_ptr(), 4);
     }
     want.answer
+}
+
+pub fn former_length(state: &[u8], out_len: usize) -> usize {
+    match state.len() {
+        STATE => (word(state, lent::LENGTH) as usize).min(out_len),
+        _ => 0,
+    }
+}
+
+/// Leaves what a run or layout leaves: done, its text and the state; refused, what it
+/// had written, with a part of the buffer made zero.
+pub unsafe fn left(
+    want: &Want,
+    length: usize,
+    state: *mut u8,
+    out: *mut u8,
+    zero: Option<(usize, usize)>,
+) {
+    if let Some(new) = &want.state {
+        out.wrapping_add(length)
+            .copy_from(want.written.as_ptr(), want.written.len());
+        state.copy_from(new.as_ptr(), STATE);
+        return;
+    }
+    out.wrapping_add(length)
+        .copy_from(want.hidden.as_ptr(), want.hidden.len());
+    if let Some((from, to)) = zero {
+        out.wrapping_add(from).write_bytes(0, to - from);
+    }
 }
 
 /// Which part of the buffer a refused run makes zero.

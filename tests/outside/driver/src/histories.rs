@@ -1,7 +1,7 @@
 //! Histories from the oracle's families, replayed step by step: a step is a call
 //! record, or a run as the oracle's files have it.
 use oracle::alloc;
-use oracle::call::run_step;
+use oracle::call::{layout_step, run_step, Step};
 use oracle::case::{self, Case, ROOM};
 use oracle::engine::Engine;
 use oracle::gen::{self, Rng};
@@ -49,6 +49,19 @@ pub fn with_runs(rng: &mut Rng, script: &Script, steps: Vec<Vec<u8>>) -> Vec<Vec
     all
 }
 
+/// The same steps, and layouts among them. One that is done ends the engine, so
+/// there are few.
+pub fn with_layouts(rng: &mut Rng, steps: Vec<Vec<u8>>) -> Vec<Vec<u8>> {
+    let mut all = vec![];
+    for step in steps {
+        if rng.one_in(8) {
+            all.push(layout_step());
+        }
+        all.push(step);
+    }
+    all
+}
+
 /// Opens, and makes the steps, beside the Rust's own engine where both trim alike.
 pub fn replay(
     s: &mut Session,
@@ -66,6 +79,7 @@ pub fn replay(
             s.step(script, record)?;
         }
         s.run(script, 0)?;
+        s.layout(script)?;
         return Ok(());
     }
     if script.trims_alike() {
@@ -87,7 +101,7 @@ fn replay_beside_rust(
     let mut rust = Engine::new(text, tree, &mut buffer, &mut diagnostics);
     for record in records {
         let want = s.step(script, record)?;
-        let step = oracle::call::step(record);
+        let step = rules::step_of(record);
         let answer = rust.step(step).map_or_else(|r| r.packed(), |()| 0);
         // The library gave what the reference did: so both are compared.
         assert_eq!(
@@ -106,11 +120,12 @@ fn replay_beside_rust(
             "the Rust and document 01's words part"
         );
         s.tally.with_rust += 1;
+        s.tally.layouts_with_rust += matches!(step, Step::Layout) as u64;
     }
     Ok(())
 }
 
-fn family(
+pub fn family(
     s: &mut Session,
     rng: &mut Rng,
     case: Case,
@@ -171,13 +186,14 @@ pub fn traces(
     Ok(())
 }
 
-/// A program of nearly 8,192 records: the calls at its head.
+/// A program of nearly 8,192 records: the calls at its head, runs, and a layout.
 pub fn big(s: &mut Session, rng: &mut Rng, seed: u64, i: u64) -> Result<(), Differs> {
     let case = gen::make("big", seed, i).expect("a family");
     let mut records = records_of(&case::run(&case).trace);
     records.truncate(400);
     let script = Script::new(case.source.clone(), case.tree.clone());
     records.extend((0..100).map(|_| any_run(rng, &script)));
+    records.push(layout_step());
     family(s, rng, case, records)
 }
 
@@ -188,13 +204,14 @@ pub fn openings(s: &mut Session, rng: &mut Rng, i: u64) -> Result<(), Differs> {
     let n = 1 + rng.below(6);
     let records = gen::history(rng, script.records().len(), n, 40);
     let records = with_runs(rng, &script, records);
+    let records = with_layouts(rng, records);
     let room = rng.below(60);
     replay(s, rng, &script, room, &records)
 }
 
 /// Buffers of exactly the size that some step of a history needs, or one byte less.
 pub fn rooms(s: &mut Session, rng: &mut Rng, seed: u64, i: u64) -> Result<(), Differs> {
-    let name = ["calls", "rules", "exprs"][i as usize % 3];
+    let name = ["calls", "rules", "exprs", "focus"][i as usize % 4];
     let case = gen::make(name, seed ^ 0x5EED, i).expect("a family");
     let records = records_of(&case.steps);
     let script = Script::new(case.source, case.tree);

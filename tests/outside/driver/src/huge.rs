@@ -1,5 +1,5 @@
 //! Buffers around 4 GiB, in memory that is there only once it is touched.
-use oracle::call::{run_step, Step};
+use oracle::call::{layout_step, run_step, Step};
 use oracle::grammar::Rec;
 use oracle::opening::join;
 
@@ -7,6 +7,7 @@ use crate::area::{Area, Side};
 use crate::exported::Library;
 use crate::lent::{self, STATE};
 use crate::reference::{self, Script, Want};
+use crate::rules;
 use crate::tally::Tally;
 
 const FOUR_GIB: usize = 1 << 32;
@@ -32,9 +33,10 @@ impl Huge<'_> {
         let (first, last) = (from.saturating_sub(AROUND), out_len.min(from + AROUND));
         let around = self.out.bytes()[first..last].to_vec();
         let mut left = state.clone();
-        let got = match oracle::call::step(step) {
+        let got = match rules::step_of(step) {
             Step::Run(node) => self.run(out_len, &mut left, node, &want),
-            _ => self.call(out_len, &mut left, step, &want),
+            Step::Layout => self.layout(out_len, &mut left, &want),
+            Step::Call(_) => self.call(out_len, &mut left, step, &want),
         };
         self.calls += 1;
         let mut around = around;
@@ -90,11 +92,34 @@ impl Huge<'_> {
             )
         }
     }
+
+    fn layout(&mut self, out_len: usize, left: &mut [u8], want: &Want) -> u64 {
+        let (source, tree) = (&self.script.source, &self.script.tree);
+        self.tally.laid(tree.len(), want);
+        unsafe {
+            (self.library.layout)(
+                source.as_ptr(),
+                source.len(),
+                tree.as_ptr(),
+                tree.len(),
+                left.as_mut_ptr(),
+                left.len(),
+                self.out.pointer(),
+                out_len,
+            )
+        }
+    }
 }
 
 pub fn huge(library: Library, tally: &mut Tally) {
-    let path = Rec::new(0xB0, 0, 7, 2);
-    let records = [path, Rec::new(3, 0, 3, 0), Rec::new(2, 3, 7, 0)];
+    // a path in an expression, in a body
+    let records = [
+        Rec::new(0x80, 0, 7, 4),
+        Rec::new(0x96, 0, 7, 3),
+        Rec::new(0xB0, 0, 7, 2),
+        Rec::new(3, 0, 3, 0),
+        Rec::new(2, 3, 7, 0),
+    ];
     for out_len in [FOUR_GIB - 2, FOUR_GIB - 1, FOUR_GIB, FOUR_GIB + 1] {
         let mut huge = Huge {
             library,
@@ -104,15 +129,18 @@ pub fn huge(library: Library, tally: &mut Tally) {
             calls: 0,
         };
         for less in 0..6 {
-            for record in [&[4, 0][..], &[4, 5], &[8], &[1, 1, 0, 0, 0], &[11], &[12]] {
+            for record in [&[4, 0][..], &[4, 5], &[8], &[1, 3, 0, 0, 0], &[11], &[12]] {
                 huge.step(out_len, u32::MAX - less, record);
             }
-            for node in [0, 1, 3] {
+            for node in [0, 2, 3, 5] {
                 huge.step(out_len, u32::MAX - less, &run_step(node));
             }
+            huge.step(out_len, u32::MAX - less, &layout_step());
         }
-        huge.step(out_len, 0, &[1, 1, 0, 0, 0]);
-        huge.step(out_len, 0, &run_step(0));
+        // refused ones would make all of it zero: these are done
+        huge.step(out_len, 0, &[1, 3, 0, 0, 0]);
+        huge.step(out_len, 0, &run_step(2));
+        huge.step(out_len, 0, &layout_step());
         let calls = huge.calls;
         tally.history("huge buffers", calls);
     }

@@ -39,6 +39,27 @@ pub fn all() -> Vec<Script> {
     all
 }
 
+/// Such nests in a body, or in an expression in a body, so that a layout goes as
+/// deep as a tree can be.
+pub fn in_bodies() -> Vec<Script> {
+    let plain = nests::built(63)
+        .into_iter()
+        .map(|nest| within(nest, &[0x80]));
+    let exprs = nests::built(62)
+        .into_iter()
+        .map(|nest| within(nest, &[0x80, 0x96]));
+    plain.chain(exprs).collect()
+}
+
+/// The whole tree in composites of these kinds, the first one outermost.
+fn within((source, mut records): (String, Vec<Rec>), kinds: &[u8]) -> Script {
+    for kind in kinds.iter().rev() {
+        let around = Rec::new(*kind, 0, source.len() as u32, records.len() as u32);
+        records.insert(0, around);
+    }
+    Script::new(source.into_bytes(), join(&records))
+}
+
 /// So many levels of such a pair, each leaf one byte.
 fn deep((outer, inner, before, behind, innermost): Nested, levels: usize) -> Script {
     let len = levels * (before.len() + 1) + 1;

@@ -5,10 +5,12 @@ mod bounds;
 mod changed;
 mod exported;
 mod faults;
+mod faulty_layouts;
 mod faulty_runs;
 mod histories;
 mod huge;
 mod large;
+mod layouts;
 mod lent;
 mod noise;
 mod record;
@@ -19,6 +21,7 @@ mod sample;
 mod session;
 mod tally;
 
+use std::ops::Range;
 use std::path::PathBuf;
 use std::process::exit;
 use std::time::{Instant, SystemTime, UNIX_EPOCH};
@@ -31,13 +34,14 @@ use faults::Fault;
 use session::{Desk, Differs, Session};
 use tally::Tally;
 
-const HELP: &str = "outside [--calls N] [--seed N] [--save FOLDER] [--only GROUP:NUMBER] [--trace]
+const HELP: &str =
+    "outside [--calls N] [--seed N] [--save FOLDER] [--only GROUP:NUMBER[..NUMBER]] [--trace]
 outside faults [--calls N] [--seed N]     each fault of a stand-in must be found
 outside sample FOLDER COUNT [--seed N]    histories with their answers, as files
 outside record FOLDER                     the sessions that the gate's program `exported` replays";
 
 /// Groups of histories; of a round of histories each gets so many.
-const GROUPS: [(&str, usize); 18] = [
+const GROUPS: [(&str, usize); 24] = [
     ("calls", 8),
     ("trimcalls", 2),
     ("layout", 4),
@@ -54,11 +58,18 @@ const GROUPS: [(&str, usize); 18] = [
     ("queues", 3),
     ("lent", 10),
     ("noise", 12),
+    ("whole", 6),
+    ("mixed", 10),
+    ("queued", 2),
+    ("broken", 12),
     ("sizes", 0),
     ("words", 0),
+    ("tables", 0),
+    ("big", 0),
 ];
-/// One history in so many is of a tree with nearly 8,192 records.
-const BIG: usize = 4_000;
+/// One history in so many is of a tree of about 18,423 bytes, or with nearly 8,192
+/// records.
+const SELDOM: [(&str, usize); 2] = [("tables", 500), ("big", 4_000)];
 /// A run stops at so many differences, a search for a fault at the first.
 const MOST_DIFFERENCES: usize = 10;
 
@@ -66,7 +77,7 @@ struct Options {
     calls: u64,
     seed: u64,
     save: Option<PathBuf>,
-    only: Option<(String, u64)>,
+    only: Option<(String, Range<u64>)>,
     trace: bool,
 }
 
@@ -77,6 +88,15 @@ fn help() -> ! {
 
 fn number(text: &str) -> u64 {
     text.parse().unwrap_or_else(|_| help())
+}
+
+/// One number, or those from one up to another, without it.
+fn numbers(text: &str) -> Range<u64> {
+    match text.split_once("..") {
+        Some((from, to)) if number(from) < number(to) => number(from)..number(to),
+        Some(_) => help(),
+        None => number(text)..number(text) + 1,
+    }
 }
 
 fn options(args: &mut Vec<String>) -> Options {
@@ -100,7 +120,7 @@ fn options(args: &mut Vec<String>) -> Options {
             "--only" => {
                 let value = value();
                 let (group, n) = value.split_once(':').unwrap_or_else(|| help());
-                options.only = Some((group.into(), number(n)));
+                options.only = Some((group.into(), numbers(n)));
             }
             "--trace" => options.trace = true,
             word if word.starts_with("--") => help(),
@@ -108,6 +128,34 @@ fn options(args: &mut Vec<String>) -> Options {
         }
     }
     options
+}
+
+/// The steps of a history of this group.
+fn steps_of(s: &mut Session, rng: &mut Rng, group: &str, seed: u64, i: u64) -> Result<(), Differs> {
+    match group {
+        "calls" | "trimcalls" => histories::calls(s, rng, group, seed, i),
+        "layout" | "trim" | "focus" | "runs" | "damaged" => {
+            histories::traces(s, rng, group, seed, i)
+        }
+        "rules" | "exprs" | "nests" => histories::runs(s, rng, group, seed, i),
+        "nodes" => {
+            let family = ["runs", "damaged"][i as usize % 2];
+            histories::runs(s, rng, family, seed, i)
+        }
+        "big" => histories::big(s, rng, seed, i),
+        "openings" => histories::openings(s, rng, i),
+        "rooms" => histories::rooms(s, rng, seed, i),
+        "queues" => bounds::queues(s, rng),
+        "lent" => changed::lent(s, rng, i % 2 == 1),
+        "noise" => noise::noise(s, rng, i % 2 == 1),
+        "whole" => layouts::whole(s, rng, seed, i),
+        "mixed" => layouts::mixed(s, rng, seed, i),
+        "queued" => layouts::queued(s, rng),
+        "broken" => layouts::broken(s, rng, seed, i),
+        "tables" => layouts::tables(s, rng, i),
+        "sizes" => bounds::all_sizes(s, rng),
+        _ => bounds::all_words(s),
+    }
 }
 
 /// One history; the same group, seed and number give the same one.
@@ -127,25 +175,7 @@ fn history(
     let rng = &mut Rng::new(mark.wrapping_mul(1_000_003).wrapping_add(i));
     let mut s = Session::new(library, desk, tally, options.save.as_ref(), (group, i));
     // a difference stands in the tally
-    let _: Result<(), Differs> = match group {
-        "calls" | "trimcalls" => histories::calls(&mut s, rng, group, options.seed, i),
-        "layout" | "trim" | "focus" | "runs" | "damaged" => {
-            histories::traces(&mut s, rng, group, options.seed, i)
-        }
-        "rules" | "exprs" | "nests" => histories::runs(&mut s, rng, group, options.seed, i),
-        "nodes" => {
-            let family = ["runs", "damaged"][i as usize % 2];
-            histories::runs(&mut s, rng, family, options.seed, i)
-        }
-        "big" => histories::big(&mut s, rng, options.seed, i),
-        "openings" => histories::openings(&mut s, rng, i),
-        "rooms" => histories::rooms(&mut s, rng, options.seed, i),
-        "queues" => bounds::queues(&mut s, rng),
-        "lent" => changed::lent(&mut s, rng),
-        "noise" => noise::noise(&mut s, rng),
-        "sizes" => bounds::all_sizes(&mut s, rng),
-        _ => bounds::all_words(&mut s),
-    };
+    let _ = steps_of(&mut s, rng, group, options.seed, i);
     s.done();
 }
 
@@ -175,14 +205,11 @@ fn rounds(library: Library, options: &Options, calls: u64, most: usize) -> Tally
             (GROUPS[at].0, numbers[at]),
         );
         numbers[at] += 1;
-        if made % BIG == BIG / 2 {
-            history(
-                library,
-                &mut desk,
-                &mut tally,
-                options,
-                ("big", (made / BIG) as u64),
-            );
+        for (group, often) in SELDOM {
+            if made % often == often / 2 {
+                let at = (group, (made / often) as u64);
+                history(library, &mut desk, &mut tally, options, at);
+            }
         }
     }
     tally
@@ -210,56 +237,62 @@ fn threads(library: Library, options: &Options) -> Tally {
     sum
 }
 
-fn only(options: &Options, group: &str, number: u64) -> Tally {
+fn only(options: &Options, group: &str, numbers: Range<u64>) -> bool {
+    let begun = Instant::now();
     let (mut desk, mut tally) = (Desk::new(), Tally::default());
-    let names = GROUPS.iter().map(|g| g.0).chain(["big"]);
+    let names = GROUPS.iter().map(|g| g.0);
     let name = names
         .into_iter()
         .find(|n| *n == group)
         .unwrap_or_else(|| help());
-    history(SAVETNUOK, &mut desk, &mut tally, options, (name, number));
-    tally
+    let many = numbers.end - numbers.start > 1;
+    for number in numbers {
+        if tally.differences.len() < MOST_DIFFERENCES {
+            history(SAVETNUOK, &mut desk, &mut tally, options, (name, number));
+        }
+    }
+    if many {
+        tally.show();
+    }
+    summed_up(&tally, "", begun)
+}
+
+/// The differences, and how much was compared; were there none?
+fn summed_up(tally: &Tally, aside: &str, begun: Instant) -> bool {
+    for difference in tally.differences.iter().take(MOST_DIFFERENCES) {
+        println!("DIFFERS {difference}");
+    }
+    println!(
+        "  {} openings, {} calls, {} runs and {} layouts compared,{aside} {} beside rune's own two files, {} layouts of these; {} differ ({} s)",
+        tally.opens,
+        tally.calls - tally.runs - tally.layouts,
+        tally.runs,
+        tally.layouts,
+        tally.with_rust,
+        tally.layouts_with_rust,
+        tally.differences.len(),
+        begun.elapsed().as_secs()
+    );
+    tally.differences.is_empty()
 }
 
 fn compare(options: &Options) -> bool {
     let begun = Instant::now();
     println!("random histories, --seed {}", options.seed);
-    if let Some((group, number)) = &options.only {
-        let tally = only(options, group, *number);
-        tally
-            .differences
-            .iter()
-            .for_each(|d| println!("DIFFERS {d}"));
-        println!(
-            "  {} calls and runs, {} differ",
-            tally.calls,
-            tally.differences.len()
-        );
-        return tally.differences.is_empty();
+    if let Some((group, numbers)) = &options.only {
+        return only(options, group, numbers.clone());
     }
     let mut tally = rounds(SAVETNUOK, options, options.calls, MOST_DIFFERENCES);
     huge::huge(SAVETNUOK, &mut tally);
     let alone = tally.calls;
     tally.add(threads(SAVETNUOK, options));
     tally.show();
-    for difference in tally.differences.iter().take(MOST_DIFFERENCES) {
-        println!("DIFFERS {difference}");
-    }
     let missed = tally.never_reached();
     missed
         .iter()
         .for_each(|what| println!("NEVER REACHED {what}"));
-    println!(
-        "  {} openings, {} calls and {} runs compared, {} of these in four threads at once, {} beside rune's own two files; {} differ ({} s)",
-        tally.opens,
-        tally.calls - tally.runs,
-        tally.runs,
-        tally.calls - alone,
-        tally.with_rust,
-        tally.differences.len(),
-        begun.elapsed().as_secs()
-    );
-    tally.differences.is_empty() && missed.is_empty()
+    let aside = format!(" {} in four threads at once,", tally.calls - alone);
+    summed_up(&tally, &aside, begun) && missed.is_empty()
 }
 
 /// Each fault must be found, and the stand-in without one must pass.

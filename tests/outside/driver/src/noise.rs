@@ -42,7 +42,7 @@ fn tree(rng: &mut Rng, source: &[u8]) -> Vec<u8> {
     }
 }
 
-fn state(rng: &mut Rng) -> Vec<u8> {
+pub fn state(rng: &mut Rng) -> Vec<u8> {
     let mut state = vec![0; STATE];
     match rng.below(5) {
         0 => state.iter_mut().for_each(|b| *b = rng.below(256) as u8),
@@ -73,12 +73,18 @@ fn record(rng: &mut Rng, records: usize) -> Vec<u8> {
     }
 }
 
-pub fn noise(s: &mut Session, rng: &mut Rng) -> Result<(), Differs> {
+pub fn source_and_tree(rng: &mut Rng) -> (Vec<u8>, Vec<u8>) {
+    let source = source(rng);
+    let tree = tree(rng, &source);
+    (source, tree)
+}
+
+/// Calls and runs; layouts too, where they are wanted.
+pub fn noise(s: &mut Session, rng: &mut Rng, layouts: bool) -> Result<(), Differs> {
     let script = match rng.one_in(4) {
         true => changed::script(rng),
         false => {
-            let source = source(rng);
-            let tree = tree(rng, &source);
+            let (source, tree) = source_and_tree(rng);
             Script::new(source, tree)
         }
     };
@@ -97,6 +103,9 @@ pub fn noise(s: &mut Session, rng: &mut Rng) -> Result<(), Differs> {
             if rng.one_in(2) {
                 let run = any_run(rng, &script);
                 s.step(&script, &run)?;
+            }
+            if layouts && rng.one_in(2) {
+                s.layout(&script)?;
             }
         }
     }

@@ -105,8 +105,12 @@ pub fn write(folder: &Path) {
     file.fill("rules", 60_000, &|s, i| family(s, "rules", i));
     file.fill("exprs", 60_000, &|s, i| family(s, "exprs", i));
     file.fill("random openings", 20_000, &random_opening);
-    file.fill("lent", 60_000, &|s, i| changed::lent(s, &mut Rng::new(i)));
-    file.fill("noise", 30_000, &|s, i| noise::noise(s, &mut Rng::new(i)));
+    file.fill("lent", 60_000, &|s, i| {
+        changed::lent(s, &mut Rng::new(i), false)
+    });
+    file.fill("noise", 30_000, &|s, i| {
+        noise::noise(s, &mut Rng::new(i), false)
+    });
     show(&file);
     save(folder, "sessions.bin", &file);
 

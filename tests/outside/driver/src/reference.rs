@@ -1,7 +1,7 @@
 //! What the exported functions must answer and leave: opening in two ways, the
-//! checks on what is lent, then the engine of document 01's words; a run is the
-//! calls that rune's format.rs makes. A function of what is lent, and of nothing
-//! else.
+//! checks on what is lent, then the engine of document 01's words; a run or layout
+//! is the calls that rune's format.rs makes. A function of what is lent, and of
+//! nothing else.
 use oracle::call::Step;
 use oracle::docengine::{DocEngine, Trim};
 use oracle::grammar::{Rec, Tree};
@@ -10,6 +10,8 @@ use oracle::{opening, opening_again};
 
 use crate::lent::{self, STATE};
 use crate::rules;
+
+const BLOCK_BODY: u8 = 0x80;
 
 /// A source and a tree, and what opening says of them.
 pub struct Script {
@@ -75,9 +77,9 @@ pub struct Want {
     pub state: Option<Vec<u8>>,
     /// behind the former output
     pub written: Vec<u8>,
-    /// from where on the buffer is zero: of a refused run
+    /// from where on the buffer is zero: of a refused run or layout
     pub zero_from: Option<usize>,
-    /// what a refused run had written, which nobody may see
+    /// what a refused run or layout had written, which nobody may see
     pub hidden: Vec<u8>,
 }
 
@@ -134,11 +136,12 @@ pub fn call_by(trim: Trim, script: &Script, state: &[u8], out_len: usize, record
     }
 }
 
-/// A step of the oracle's files: a run where the bytes are one, else a call.
+/// A step of the oracle's files: a run or layout where the bytes are one, else a call.
 pub fn step(script: &Script, state: &[u8], out_len: usize, step: &[u8]) -> Want {
-    match oracle::call::step(step) {
+    match rules::step_of(step) {
         Step::Run(node) => run(script, state, out_len, node),
-        _ => call(script, state, out_len, step),
+        Step::Layout => layout(script, state, out_len),
+        Step::Call(_) => call(script, state, out_len, step),
     }
 }
 
@@ -146,20 +149,57 @@ pub fn run(script: &Script, state: &[u8], out_len: usize, node: u32) -> Want {
     run_by(&|calls| calls, script, state, out_len, node)
 }
 
-/// How a fault changes the calls of a run.
+pub fn layout(script: &Script, state: &[u8], out_len: usize) -> Want {
+    layout_by(&|calls| calls, script, state, out_len)
+}
+
+/// How a fault changes the calls of a run or layout.
 pub type Altered<'a> = &'a dyn Fn(Vec<Vec<u8>>) -> Vec<Vec<u8>>;
 
 /// With the calls changed: one of the faults.
 pub fn run_by(altered: Altered, script: &Script, state: &[u8], out_len: usize, node: u32) -> Want {
-    let mut want = laid(altered, script, state, out_len, node);
+    laid_or_hidden(altered, script, state, out_len, Step::Run(node))
+}
+
+/// The same of a layout.
+pub fn layout_by(altered: Altered, script: &Script, state: &[u8], out_len: usize) -> Want {
+    laid_or_hidden(altered, script, state, out_len, Step::Layout)
+}
+
+/// Refused, it leaves zeroes from the former length on.
+fn laid_or_hidden(
+    altered: Altered,
+    script: &Script,
+    state: &[u8],
+    out_len: usize,
+    step: Step,
+) -> Want {
+    let mut want = laid(altered, script, state, out_len, step);
     if want.answer != 0 && lent::shaped(state, out_len) {
         want.zero_from = Some(lent::word(state, lent::LENGTH) as usize);
     }
     want
 }
 
-/// Opening, what is lent, 10, 11, 9, then the calls of the node's rule.
-fn laid(altered: Altered, script: &Script, state: &[u8], out_len: usize, node: u32) -> Want {
+/// What refuses a run or layout before its first call: 11 and 9 of a run; of a
+/// layout 8, where record 0 is no block body that holds all other records.
+fn unfit(tree: &Tree, step: Step) -> Option<Refusal> {
+    if let Step::Run(node) = step {
+        return match tree.records.get(node as usize) {
+            None => Some(Refusal::new(11, node)),
+            Some(r) if rules::name(r.kind).is_none() => Some(Refusal::new(9, node)),
+            _ => None,
+        };
+    }
+    let whole = |r: &Rec| r.kind == BLOCK_BODY && r.below as usize + 1 == tree.records.len();
+    match tree.records.first().is_some_and(whole) {
+        true => None,
+        false => Some(Refusal::new(8, 0)),
+    }
+}
+
+/// Opening, what is lent, 10, what the tree lacks, then the calls of the rules.
+fn laid(altered: Altered, script: &Script, state: &[u8], out_len: usize, step: Step) -> Want {
     let Some((text, tree)) = script.good() else {
         return Want::refused(*script.opened.as_ref().err().unwrap(), By::Opening);
     };
@@ -167,16 +207,13 @@ fn laid(altered: Altered, script: &Script, state: &[u8], out_len: usize, node: u
         Ok(state) => state,
         Err(r) => return Want::refused(r, By::Lent),
     };
-    let refused = |no, place| Want::refused(Refusal::new(no, place), By::Call);
     if state.finished {
-        return refused(10, state.len as u32);
+        return Want::refused(Refusal::new(10, state.len as u32), By::Call);
     }
-    match tree.records.get(node as usize) {
-        None => return refused(11, node),
-        Some(r) if rules::name(r.kind).is_none() => return refused(9, node),
-        _ => {}
+    if let Some(r) = unfit(tree, step) {
+        return Want::refused(r, By::Call);
     }
-    let plan = rules::plan(text, tree, &state, node);
+    let plan = rules::plan(text, tree, &state, step);
     let mut engine = DocEngine::new(text, &tree.records, out_len, Trim::Three);
     engine.state = state;
     for call in altered(plan.calls) {

@@ -1,7 +1,7 @@
 //! The rules that a run may take, and the calls that rune's format.rs makes for a
-//! node: what the engine of document 01's words is then given.
+//! node or a whole tree: what the engine of document 01's words is then given.
 use oracle::alloc;
-use oracle::call::{script as steps_of, Step};
+use oracle::call::{layout_step, script as steps_of, Step};
 use oracle::engine::Engine;
 use oracle::grammar::Tree;
 use oracle::refusal::Refusal;
@@ -76,7 +76,7 @@ pub fn name(kind: u8) -> Option<&'static str> {
     KINDS.iter().find(|k| k.0 == kind).map(|k| k.1)
 }
 
-/// The calls of a run, and the refusal that ends it where one does. A call that the
+/// The calls of a run or layout, and the refusal that ends it where one does. A call that the
 /// queue or the indent refuses stands last.
 pub struct Plan {
     pub calls: Vec<Vec<u8>>,
@@ -85,7 +85,7 @@ pub struct Plan {
 
 /// What the Rust does where there is room for all. Of the output the engine asks
 /// only whether it is empty.
-pub fn plan(text: &str, tree: &Tree, state: &State, node: u32) -> Plan {
+pub fn plan(text: &str, tree: &Tree, state: &State, step: Step) -> Plan {
     let (mut buffer, mut diagnostics) = (alloc::String::with_cap(usize::MAX), Diagnostics);
     let len = state.len.min(1);
     buffer.text = "x".repeat(len);
@@ -95,11 +95,20 @@ pub fn plan(text: &str, tree: &Tree, state: &State, node: u32) -> Plan {
         ..state.clone()
     });
     rust.fmt.trace = Some(vec![]);
-    let refusal = rust.step(Step::Run(node)).err();
+    let refusal = rust.step(step).err();
     let trace = rust.fmt.trace.take().expect("a trace");
     Plan {
         calls: records_of(&trace),
         refusal,
+    }
+}
+
+/// One step by itself. The oracle's files of single steps have no layouts, so its
+/// own reading knows runs and calls only.
+pub fn step_of(record: &[u8]) -> Step<'_> {
+    match record == layout_step() {
+        true => Step::Layout,
+        false => oracle::call::step(record),
     }
 }
 
@@ -108,7 +117,7 @@ pub fn records_of(steps: &[u8]) -> Vec<Vec<u8>> {
     let record = |(_, step)| match step {
         Step::Call(record) => record.to_vec(),
         Step::Run(node) => oracle::call::run_step(node),
-        Step::Layout => oracle::call::layout_step(),
+        Step::Layout => layout_step(),
     };
     steps_of(steps).into_iter().map(record).collect()
 }

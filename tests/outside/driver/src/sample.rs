@@ -3,16 +3,18 @@
 use std::fs;
 use std::path::Path;
 
-use oracle::call::run_step;
+use oracle::call::{layout_step, run_step};
 use oracle::case::Case;
 use oracle::gen::{self, Rng};
 use oracle::{compare, opening};
 
 use crate::histories::needed;
 use crate::large;
+use crate::layouts;
 use crate::lent::{self, STATE};
 use crate::reference::{self, Script};
 use crate::rules::records_of;
+use crate::tally::SHORT;
 
 /// Steps of a history.
 const LONGEST: usize = 60;
@@ -41,11 +43,16 @@ pub fn write(folder: &Path, seed: u64, count: u64) {
             "fresh-runs.bin",
             &["rules", "exprs", "exprs", "nests", "runs"],
         ),
+        (
+            "fresh-layouts.bin",
+            &["layout", "focus", "damaged", "focus", "trim"],
+        ),
     ] {
         let file = histories(families, seed, count);
         fs::write(folder.join(name), file).expect("a file can be written");
     }
     fs::write(folder.join("large-runs.bin"), large_runs()).expect("a file can be written");
+    fs::write(folder.join("large-layouts.bin"), large_layouts(rng)).expect("a file can be written");
 }
 
 /// Runs on the largest and deepest nodes: they take the most stack.
@@ -59,6 +66,26 @@ fn large_runs() -> Vec<u8> {
     for script in scripts {
         let steps = [0, 1, 2].map(run_step);
         put_history(&mut file, &script, 20_000, &steps);
+    }
+    file
+}
+
+/// Layouts of trees on both sides of the small table's length, of nearly 8,192
+/// records, and as deep as can be.
+fn large_layouts(rng: &mut Rng) -> Vec<u8> {
+    let mut scripts: Vec<Script> = [SHORT, SHORT + 1]
+        .map(|len| layouts::of_length(rng, len))
+        .into();
+    let big = gen::make("big", rng.next(), 0).expect("a family");
+    scripts.push(Script::new(big.source, big.tree));
+    let deep = large::in_bodies().into_iter();
+    scripts.extend(deep.filter(|s| s.good().is_some()));
+    let mut file = vec![];
+    put_u32(&mut file, scripts.len());
+    for script in scripts {
+        let steps = [layout_step()];
+        let room = needed(&script, &steps) + 8;
+        put_history(&mut file, &script, room, &steps);
     }
     file
 }

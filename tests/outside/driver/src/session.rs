@@ -3,13 +3,14 @@
 use std::fs;
 use std::path::PathBuf;
 
-use oracle::call::Step;
+use oracle::call::{layout_step, run_step, Step};
 
 use crate::area::{Area, Side};
 use crate::exported::Library;
 use crate::lent;
 use crate::recorder::{self, Recorder};
 use crate::reference::{self, Script, Want};
+use crate::rules;
 use crate::tally::Tally;
 
 /// The memory that is lent.
@@ -39,6 +40,7 @@ enum Asked<'a> {
     Open,
     Call(&'a [u8]),
     Run(u32),
+    Layout,
 }
 
 /// A history was cut off: the library differs, and the tally knows.
@@ -155,11 +157,12 @@ impl<'a> Session<'a> {
         Ok(want.answer == 0)
     }
 
-    /// A step of the oracle's files: a run where the bytes are one, else a call.
+    /// A step of the oracle's files: a run or layout where the bytes are one, else a call.
     pub fn step(&mut self, script: &Script, step: &[u8]) -> Result<Want, Differs> {
-        match oracle::call::step(step) {
+        match rules::step_of(step) {
             Step::Run(node) => self.run(script, node),
-            _ => self.call(script, step),
+            Step::Layout => self.layout(script),
+            Step::Call(_) => self.call(script, step),
         }
     }
 
@@ -183,6 +186,27 @@ impl<'a> Session<'a> {
         let kind = script.records().get(node as usize).map(|r| r.kind);
         self.tally.ran(kind, &want);
         self.compare(script, Asked::Run(node), got, &want)?;
+        Ok(want)
+    }
+
+    pub fn layout(&mut self, script: &Script) -> Result<Want, Differs> {
+        let want = reference::layout(script, &self.state, self.out.len());
+        let desk = &mut *self.desk;
+        let got = unsafe {
+            (self.library.layout)(
+                Self::pointer(&mut desk.source, self.nulls),
+                script.source.len(),
+                Self::pointer(&mut desk.tree, self.nulls),
+                script.tree.len(),
+                Self::pointer(&mut desk.state, self.nulls),
+                self.state.len(),
+                Self::pointer(&mut desk.out, self.nulls),
+                self.out.len(),
+            )
+        };
+        self.calls += 1;
+        self.tally.laid(script.tree.len(), &want);
+        self.compare(script, Asked::Layout, got, &want)?;
         Ok(want)
     }
 
@@ -261,6 +285,7 @@ impl<'a> Session<'a> {
             Asked::Open => (recorder::OPEN, vec![]),
             Asked::Call(record) => (recorder::CALL, record.to_vec()),
             Asked::Run(node) => (recorder::RUN, node.to_le_bytes().to_vec()),
+            Asked::Layout => (recorder::LAYOUT, vec![]),
         };
         let from = match want.state {
             Some(_) => self.written_from(),
@@ -302,6 +327,7 @@ impl<'a> Session<'a> {
             Asked::Open => "open".into(),
             Asked::Call(record) => format!("call {number} {record:02x?}"),
             Asked::Run(node) => format!("call {number}, a run on node {node}"),
+            Asked::Layout => format!("call {number}, a layout"),
         };
         self.tally.differences.push(format!(
             "{} {}: {call}: {} differs; answer {} at {}, wanted {} at {}",
@@ -337,7 +363,8 @@ impl<'a> Session<'a> {
             &match asked {
                 Asked::Open => vec![],
                 Asked::Call(record) => record.to_vec(),
-                Asked::Run(node) => oracle::call::run_step(node),
+                Asked::Run(node) => run_step(node),
+                Asked::Layout => layout_step(),
             },
         );
     }

@@ -59,6 +59,28 @@ const RUNS: [&str; 15] = [
     "run 10",
     "run 11",
 ];
+/// Of layouts; done ones on both sides of the length up to which the library takes
+/// its small table.
+const LAYOUTS: [&str; 16] = [
+    "layout done",
+    "layout 1",
+    "layout 2",
+    "layout 3",
+    "layout 7",
+    "layout lent 4",
+    "layout lent 5",
+    "layout lent 6",
+    "layout 4",
+    "layout 5",
+    "layout 6",
+    "layout 8",
+    "layout 9",
+    "layout 10",
+    "short tree laid out",
+    "long tree laid out",
+];
+/// The longest tree, in bytes, for which the library takes its small table.
+pub const SHORT: usize = 18_423;
 /// Answers of the table of runs.
 const ANSWERS: [u64; 8] = [0, 4, 5, 6, 8, 9, 10, 11];
 const WITHOUT: &str = "a kind without a rule";
@@ -77,16 +99,19 @@ fn required() -> impl Iterator<Item = &'static str> {
         .chain(REFUSALS)
         .chain(QUEUES)
         .chain(RUNS)
+        .chain(LAYOUTS)
 }
 
 #[derive(Default)]
 pub struct Tally {
     pub opens: u64,
     pub calls: u64,
-    /// of these calls, runs
+    /// of these calls, runs and layouts
     pub runs: u64,
+    pub layouts: u64,
     /// of all of them, compared with rune's own output.rs too
     pub with_rust: u64,
+    pub layouts_with_rust: u64,
     groups: BTreeMap<&'static str, (u64, u64)>,
     reached: BTreeMap<&'static str, u64>,
     /// runs over a good script, by the node's kind and the answer's number
@@ -148,17 +173,20 @@ impl Tally {
     pub fn ran(&mut self, kind: Option<u8>, want: &Want) {
         self.calls += 1;
         self.runs += 1;
-        let number = want.answer >> 32;
-        let lent = if want.by == By::Lent { "lent " } else { "" };
-        let reached = match number {
-            0 => "run done".into(),
-            _ => format!("run {lent}{number}"),
-        };
-        let reached = RUNS.into_iter().find(|r| *r == reached);
-        self.reach(reached.expect("an answer of the list"));
+        self.reach(answered("run", &RUNS, want));
         if want.by == By::Call {
             let name = kind.map_or(MISSING, |k| rules::name(k).unwrap_or(WITHOUT));
-            *self.kinds.entry((name, number)).or_default() += 1;
+            *self.kinds.entry((name, want.answer >> 32)).or_default() += 1;
+        }
+    }
+
+    /// A layout of a tree of so many bytes.
+    pub fn laid(&mut self, tree_len: usize, want: &Want) {
+        self.calls += 1;
+        self.layouts += 1;
+        self.reach(answered("layout", &LAYOUTS, want));
+        if want.answer == 0 {
+            self.reach(LAYOUTS[if tree_len <= SHORT { 14 } else { 15 }]);
         }
     }
 
@@ -166,10 +194,12 @@ impl Tally {
         self.opens += other.opens;
         self.calls += other.calls;
         self.runs += other.runs;
+        self.layouts += other.layouts;
         for (kind, n) in other.kinds {
             *self.kinds.entry(kind).or_default() += n;
         }
         self.with_rust += other.with_rust;
+        self.layouts_with_rust += other.layouts_with_rust;
         for (group, (histories, made)) in other.groups {
             let sum = self.groups.entry(group).or_default();
             *sum = (sum.0 + histories, sum.1 + made);
@@ -234,6 +264,18 @@ fn refusal(want: &Want) -> &'static str {
         .into_iter()
         .find(is_it)
         .expect("a refusal of the list")
+}
+
+/// The name in the list of what this function answered.
+fn answered(function: &str, list: &'static [&str], want: &Want) -> &'static str {
+    let number = want.answer >> 32;
+    let lent = if want.by == By::Lent { "lent " } else { "" };
+    let name = match number {
+        0 => format!("{function} done"),
+        _ => format!("{function} {lent}{number}"),
+    };
+    let named = list.iter().find(|n| **n == name);
+    named.expect("an answer of the list")
 }
 
 fn done(call: Call) -> &'static str {
