@@ -4,15 +4,14 @@
 use std::path::{Path, PathBuf};
 use std::{env, fs};
 
-/// The folder that holds the crate's src/, where RUNE_SRC doesn't say: the one
-/// beside the repository.
-const RUNE_SRC: &str = "../../shared/docs/src";
-
 fn main() {
     println!("cargo:rerun-if-changed=build.rs");
     println!("cargo:rerun-if-changed=kinds.txt");
     println!("cargo:rerun-if-env-changed=RUNE_SRC");
-    let rune = PathBuf::from(env::var("RUNE_SRC").unwrap_or_else(|_| RUNE_SRC.into()));
+    let rune = match env::var("RUNE_SRC") {
+        Ok(folder) => PathBuf::from(folder),
+        Err(_) => give_up("RUNE_SRC is not set"),
+    };
     let out = PathBuf::from(env::var("OUT_DIR").unwrap());
     // The sizes are rune 0.14.2's: another version is no oracle for this port.
     copy(&rune, "output.rs", 11_403, &out);
@@ -24,16 +23,20 @@ fn main() {
     fs::write(out.join("object_key.rs"), object_key(&kinds)).unwrap();
 }
 
+/// One line, instead of a panic: what is missing, and what to set.
+fn give_up(why: &str) -> ! {
+    eprintln!("oracle: {why}; set RUNE_SRC to the folder that holds src/fmt/output.rs and src/fmt/format.rs of rune 0.14.2");
+    std::process::exit(1)
+}
+
 fn copy(rune: &Path, name: &str, size: usize, out: &Path) -> String {
     let from = rune.join("src/fmt").join(name);
     println!("cargo:rerun-if-changed={}", from.display());
-    let text = fs::read_to_string(&from).unwrap_or_else(|e| {
-        panic!(
-            "{}: {e}; set RUNE_SRC to the folder that holds src/",
-            from.display()
-        )
-    });
-    assert_eq!(text.len(), size, "{name} isn't rune 0.14.2's");
+    let text = match fs::read_to_string(&from) {
+        Ok(text) if text.len() == size => text,
+        Ok(_) => give_up(&format!("{} is not rune 0.14.2's", from.display())),
+        Err(e) => give_up(&format!("{}: {e}", from.display())),
+    };
     fs::write(out.join(name), &text).unwrap();
     text
 }
