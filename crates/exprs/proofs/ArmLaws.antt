@@ -1,5 +1,5 @@
 -- Laws of arms: the comma behind one, and that a turn takes a record. Assumes nothing.
-use Rattle.steps.proofs.Rules.{_≡_, refl, sym, ap, _∙_, Bool, true, false, List, [], _∷_, ℕ, RecordNo, Kind, Line, Comments, Nl, Script, Plan, make, _then_, Engine, Makes, Stream, nextIs, takeAny, Flow}
+use Rattle.steps.proofs.Rules.{_≡_, refl, sym, _∙_, Bool, true, false, List, ℕ, RecordNo, Kind, Line, Comments, Nl, Script, Plan, make, _then_, Engine, Makes, Stream, nextIs, takeAny}
 use Rattle.steps.proofs.Rules.{_▸_, pump, is, Goes, Falls, Takes, Each, pump-takes, taking-falls, _takes-then_}
 use Rattle.steps.specs.Stream.{no, nextIn}
 use Rattle.steps.specs.Flow.{Got}

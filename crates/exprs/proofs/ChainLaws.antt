@@ -1,6 +1,6 @@
 -- Laws of chains: where they break, and their links one by one. Assumes nothing.
-use Rattle.steps.proofs.Rules.{_≡_, refl, sym, ap, _∙_, Bool, true, false, cond, List, [], _∷_, ltb, treeOf, ℕ, suc, _+_, _<_, _≤_, length, arith, RecordNo, Script, Plan, _then_, Engine, engine}
-use Rattle.steps.proofs.Rules.{Makes, nothing-made, Stream, recordsOf, nextIs, takeAny, Flow, _▸_, pump, Goes, _▹_, pumped, Falls, Going, starts, goes-on, done, falls, pump-takes}
+use Rattle.steps.proofs.Rules.{_≡_, refl, sym, ap, _∙_, Bool, true, false, cond, List, [], _∷_, ltb, treeOf, ℕ, suc, _+_, _<_, _≤_, length, arith, RecordNo, Script, _then_, Engine, engine}
+use Rattle.steps.proofs.Rules.{Makes, nothing-made, Stream, recordsOf, nextIs, takeAny, _▸_, pump, Goes, _▹_, pumped, Falls, Going, starts, goes-on, done, falls, pump-takes}
 use native.Mathlib.Numerals.{add-one}
 use lib.ListN.{getD}
 use Rattle.tree.specs.declared.cursor.Cursor.{Cursor}
@@ -9,7 +9,6 @@ use Rattle.tree.proofs.Laws.{kept-few, tree-few}
 use Rattle.queue.proofs.MadeLaws as made
 use Rattle.steps.specs.Stream.{streamAt}
 use Rattle.steps.specs.Flow.{Got}
-use Rattle.steps.specs.Loop.{loop}
 use Rattle.loose.specs.Chain.{chainFrom}
 use Rattle.parts.specs.Links.{breakLink, chainEnd}
 use Rattle.exprs.specs.Rule.{Rule, Below}

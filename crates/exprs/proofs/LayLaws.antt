@@ -1,6 +1,6 @@
 -- Laws of the depth that is left, and of rules that ask their node's kind. Assumes nothing.
 use Rattle.steps.proofs.Rules.{_≡_, refl, sym, ap, _∙_, List, ℕ, zero, suc, _-_, arith, Record, RecordNo, TreeDeep, nodeOf, Script, refuse, Engine, engine}
-use Rattle.steps.proofs.Rules.{Bool, true, false, Kind, byteOf, Plan, Makes, Refuses, Stream, recordsOf, Flow, _▸_, plain, pump, expect, is, parse, Goes, Falls, pump-leaves, kind-is}
+use Rattle.steps.proofs.Rules.{Bool, true, false, Kind, byteOf, Plan, Makes, Refuses, Stream, recordsOf, _▸_, plain, pump, expect, is, parse, Goes, Falls, pump-leaves, kind-is}
 use Rattle.steps.proofs.Rules.{taking-falls, _takes-then_, ne-eqb}
 use Rattle.text.proofs.Base.{eq-eqb}
 use Rattle.paths.specs.Attribute.{modifiers}

@@ -1,11 +1,11 @@
 -- Laws of lists and objects: what decides, and that a turn takes a record. Assumes nothing.
-use Rattle.steps.proofs.Rules.{_≡_, refl, sym, ap, _∙_, inl, inr, Bool, true, false, cond, List, [], _∷_, ℕ, _≤_, length, arith, Record, RecordNo, Kind, Line, Comments, Ws, Script, Plan, Makes, _▹_}
-use Rattle.steps.proofs.Rules.{nothing, make, Engine, Stream, recordsOf, Flow, _▸_, call, write, pump, expectByte, expect, is, Goes, Remaining, Place, turn}
+use Rattle.steps.proofs.Rules.{_≡_, sym, ap, _∙_, inl, inr, Bool, true, false, cond, List, [], _∷_, ℕ, _≤_, length, arith, Record, RecordNo, Kind, Line, Comments, Ws, Script, Makes, _▹_}
+use Rattle.steps.proofs.Rules.{nothing, make, Engine, Stream, recordsOf, _▸_, write, pump, expectByte, expect, is, Goes, Remaining, Place, turn}
 use Rattle.steps.proofs.Rules.{Falls, Leaves, pump-takes, pump-leaves, plain-leaves, next-leaves, taking-falls, _takes-then_, _leaves-then_, turn-falls}
-use Rattle.tree.specs.{declared.cursor.Found.the-variants.At, declared.cursor.Found.the-variants.None, declared.cursor.Cursor.Cursor, Cursor.foundOf, Cursor.headOf, Cursor.behind, Cursor.childrenOf}
+use Rattle.tree.specs.{declared.cursor.Cursor.Cursor, Cursor.foundOf, Cursor.headOf, Cursor.behind, Cursor.childrenOf}
 use Rattle.tree.proofs.Laws.{found-is}
 use Rattle.unicode.proofs.Bools.{le-or-lt}
-use Rattle.steps.specs.Stream.{Peeked, isSome}
+use Rattle.steps.specs.Stream.{Peeked}
 use Rattle.steps.proofs.StreamLaws.{found-same}
 use Rattle.patterns.specs.Pattern.{objectName, silent}
 use Rattle.loose.specs.declared.reason.Reason.{Reason}

@@ -1,6 +1,6 @@
 -- Laws of the record that was taken where one stood next. Assumes nothing.
-use Rattle.steps.proofs.Rules.{_≡_, refl, sym, ap, _∙_, Bool, true, false, List, [], _∷_, ℕ, arith, RecordNo, Stream, nextIn, nextIs, takeIn, takeIf, takeAny}
-use Rattle.tree.specs.{declared.cursor.Found.the-variants.At, declared.cursor.Found.the-variants.None, Cursor.foundOf, Cursor.headOf}
+use Rattle.steps.proofs.Rules.{_≡_, refl, sym, ap, _∙_, Bool, true, List, [], _∷_, ℕ, arith, RecordNo, Stream, nextIn, nextIs, takeIn, takeIf, takeAny}
+use Rattle.tree.specs.{Cursor.foundOf, Cursor.headOf}
 use Rattle.steps.specs.Stream.{no}
 use Rattle.steps.specs.Flow.{Got}
 use Rattle.steps.proofs.StreamLaws.{found-same}

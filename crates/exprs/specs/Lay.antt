@@ -1,6 +1,6 @@
 -- Expressions, and all rules of the cycle by the depth that is left: format.rs 559 to 687. Assumes nothing.
 use Prim.Native.Nat.{ℕ, zero, suc}
-use mathlib.Core.Bool.{Bool, true, false, cond}
+use mathlib.Core.Bool.{true, false, cond}
 use Rattle.tree.specs.declared.record.RecordNo.{RecordNo}
 use lib.Dec.{eqb}
 use Rattle.tree.specs.Table.{nodeOf}

@@ -1,6 +1,6 @@
 -- Lists of expressions, tuples, objects: format.rs 387 to 505, 783 to 845. Assumes nothing.
 use Prim.Native.Nat.{ℕ}
-use mathlib.Core.Bool.{Bool, true, false, cond}
+use mathlib.Core.Bool.{true, false, cond}
 use mathlib.Core.List.{List, [], _∷_}
 use lib.ListN.{length}
 use Rattle.tree.specs.declared.record.Record.{Record}

@@ -1,5 +1,5 @@
 -- The buffer at a run's end, by its answer. Assumes nothing.
-use Rattle.steps.proofs.Rules.{_≡_, refl, sym, _∙_, Bool, true, false, List, ℕ, arith}
+use Rattle.steps.proofs.Rules.{_≡_, refl, Bool, true, false, List, ℕ, arith}
 use Rattle.meaning.specs.{declared.answer.Answer.Answer, declared.answer.Answer.the-variants.Done, declared.answer.Answer.the-variants.Refused}
 use Rattle.meaning.specs.{Plan.zeroed}
 use Rattle.queue.specs.Run.{isRefused}

@@ -6,14 +6,13 @@ use Rattle.tree.specs.declared.record.RecordNo.{RecordNo}
 use Rattle.tree.specs.Cursor.{headOf, childrenOf}
 use Rattle.kinds.specs.declared.Kind.{Kind}
 use Rattle.kinds.specs.Facts.{byteOf}
-use Rattle.meaning.specs.Plan.{Plan, _then_}
+use Rattle.meaning.specs.Plan.{Plan}
 use Rattle.meaning.specs.State.{Script}
 use Rattle.steps.specs.declared.remaining.Mark.the-variants.{CloseBrace}
 use Rattle.steps.specs.Stream.{Stream, nextIs, no}
 use Rattle.steps.specs.Flow.{Flow, _▸_, plain, expect, is}
 use Rattle.steps.specs.Remaining.{Remaining}
 use Rattle.paths.specs.Path.{pathGenerics, genericsRule}
-use Rattle.patterns.specs.Pattern.{silent}
 use Rattle.uses.specs.Use.{useGroup}
 use Rattle.loose.specs.Reason.{reason, isLoose}
 use Rattle.loose.specs.Chain.{chainFrom}

@@ -2,10 +2,8 @@
 use Prim.Native.Nat.{ℕ}
 use mathlib.Core.Bool.{Bool, true, false, not, _||_}
 use mathlib.Core.List.{List}
-use lib.Dec.{eqb, ltb}
 use Rattle.tree.specs.declared.record.Record.{Record}
 use Rattle.tree.specs.declared.record.RecordNo.{RecordNo}
-use Rattle.tree.specs.Table.{nodeOf}
 use Rattle.kinds.specs.Facts.{needsSemi}
 use Rattle.kinds.specs.Kinds.{kindOf}
 use Rattle.meaning.specs.Plan.{Plan}
@@ -14,7 +12,6 @@ use Rattle.steps.specs.Stream.{takeIf}
 use Rattle.steps.specs.Remaining.{Remaining, isPresent, remaining}
 use Rattle.paths.specs.Attribute.{attributes, innerAttributes}
 use Rattle.patterns.specs.Pattern.{patAttributes, patLit}
-use Rattle.loose.specs.Chain.{isDot}
 use Rattle.gaps.specs.Arms.{armComma, openSelect, openMatch, openArm, closeArms, closeSelect}
 use Rattle.gaps.specs.Lines.{openLines, endEntry, closeLines, keyLine, closeKeys, nextKey}
 use Rattle.gaps.specs.Statements.{gap, beforeSemi, semicolon, enter, leave, groupEnd}
@@ -26,7 +23,7 @@ use Rattle.parts.specs.Leads.{jumpLabels, jumpWord, leadHead, beforeValue, noVa
 use Rattle.parts.specs.Heads.{fnHead, implHead, modHead, constHead, itemHead, letHead}
 use Rattle.parts.specs.Lone.{whole, lone, noItem}
 use Rattle.parts.specs.Links.{tried, awaited, fieldOf, openIndex, closeIndex, indentFirst, breakLink, chainEnd}
-use Rattle.format.proofs.TameSteps.{tame, IsTame, Each, idle, made, _and_, cond-tame, Tamed, _▹_, plain-tame, found-tame, wrong, fmt-tame, remaining-tame, write-if, write-only}
+use Rattle.format.proofs.TameSteps.{tame, IsTame, Each, idle, made, _and_, cond-tame, Tamed, _▹_, found-tame, wrong, remaining-tame, write-if, write-only}
 use Rattle.format.proofs.TameRules.{path-tame, pat-tame, modifiers-tame, fn-args, item-struct, item-enum, item-use}
 
 -- ---- gaps

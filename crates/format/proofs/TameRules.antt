@@ -12,11 +12,11 @@ use Rattle.steps.specs.Stream.{nextIs}
 use Rattle.steps.specs.Flow.{is}
 use Rattle.steps.specs.Remaining.{Remaining, says, remaining}
 use Rattle.steps.specs.Items.{Few, Zero, One, Many}
-use Rattle.paths.specs.Path.{pathPart, pathRule, genericsRule, path, pathGenerics}
+use Rattle.paths.specs.Path.{pathPart, pathRule, genericsRule, path}
 use Rattle.paths.specs.Attribute.{modifierWord, modifierIn, apart, modifier, modifierList, modifiers}
 use Rattle.patterns.specs.Pattern.{patItem, patArray, tupleEnd, tupled, tupleRule, patTuple, objectName, colonPat, objectItem, keyed, objectClosing, objectEnd, patObject, patAttributes, patLit, patChild, pat, noComma, fnArgs}
 use Rattle.bodies.specs.Body.{field, tupleBody, lined, lineEnd, structBody, body, variant, itemStruct, variants, enumBody, itemEnum}
-use Rattle.uses.specs.Use.{usePart, asName, useParts, usePathRule, howMany, isOne, braced, groupRule, usePath, useGroup, itemUse}
+use Rattle.uses.specs.Use.{usePart, asName, useParts, usePathRule, howMany, isOne, braced, groupRule, usePath, itemUse}
 use Rattle.format.proofs.TameSteps.{tame, IsTame, Each, made, deep, _and_, cond-tame, Tamed, _▹_, expected, eaten, parsed, fmt-tame, ignore-tame, remaining-tame, list-tame}
 
 -- ---- by how many items there were

@@ -1,11 +1,11 @@
 -- Laws of arms: the last record of a node, and whether an arm's body is a block. Assumes nothing.
-use Rattle.steps.proofs.Rules.{_≡_, refl, sym, ap, _∙_, Bool, true, false, List, [], _∷_, ℕ, _<_, arith, length, Record, RecordNo, Kind, byteOf, nodeOf}
-use Rattle.steps.proofs.Rules.{Stream, stream, isByte, nextIn, nextIs, recordsOf, takeIn, takeAny, takeIf, Ate, eqb}
+use Rattle.steps.proofs.Rules.{_≡_, sym, ap, _∙_, Bool, true, false, List, [], _∷_, ℕ, _<_, arith, length, Record, RecordNo, Kind, byteOf, nodeOf}
+use Rattle.steps.proofs.Rules.{Stream, nextIn, nextIs, recordsOf, takeIn, takeAny, takeIf, Ate, eqb}
 use Rattle.tree.specs.{declared.cursor.Found.Found, declared.cursor.Found.the-variants.At, declared.cursor.Found.the-variants.None, Cursor.foundOf}
 use Rattle.tree.proofs.Laws.{found-is, found-not}
 use Rattle.steps.specs.Stream.{no, isSome}
 use Rattle.steps.proofs.StreamLaws.{some-is, some-not}
-use Rattle.gaps.specs.Arms.{lastFrom, lastOf, lastIn, isFound, isBlockArm, LastOf}
+use Rattle.gaps.specs.Arms.{lastFrom, lastOf, lastIn, isBlockArm, LastOf}
 
 -- ---- the last record, one by one
 

@@ -6,7 +6,7 @@ use lib.Dec.{eqb}
 use Rattle.tree.specs.declared.record.Record.{Record}
 use Rattle.kinds.specs.declared.Kind.{Kind}
 use Rattle.kinds.specs.declared.class.Class.{Class}
-use Rattle.kinds.specs.Facts.{byteOf, classOf, needsSemi}
+use Rattle.kinds.specs.Facts.{classOf, needsSemi}
 use Rattle.kinds.specs.Kinds.{kindOf}
 use Rattle.meaning.specs.declared.call.Hint.the-variants.{Line, Prefix, Suffix}
 use Rattle.meaning.specs.declared.call.Call.the-variants.{Comments, Indent, Nl}

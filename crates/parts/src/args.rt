@@ -33,7 +33,7 @@ ghost use Rattle.patterns.specs.Pattern.{pat};
 ghost use Rattle.parts.specs.Args.{defaultOrPat, casePat, armPat, guardKind, barred, closureArgs, argsOf, letPat, forIn};
 
 // The pattern that must stand next.
-pub fn next_pat(
+fn next_pat(
     src: &[u8],
     table: &[u32],
     fmt: &mut Formatter,
