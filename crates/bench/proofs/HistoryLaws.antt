@@ -20,9 +20,9 @@ use Rattle.meaning.specs.State.{Script, fresh}
 use Rattle.meaning.specs.CallRecord.{decode}
 use Rattle.meaning.specs.World.{opened, Result, result}
 use Rattle.meaning.specs.Plan.{Plan, nothing, _then_, exec}
-use Rattle.queue.specs.View.{tab, scriptOf}
-use Rattle.queue.specs.Words.{runOf}
-use Rattle.queue.specs.Loans.{Engine, engine, reads, Makes}
+use Rattle.lent.specs.View.{tab, scriptOf}
+use Rattle.lent.specs.Words.{runOf}
+use Rattle.lent.specs.Loans.{Engine, engine, reads, Makes}
 use Rattle.entry.specs.Served.{encoded, startedRun, asCall}
 use Rattle.bench.specs.Packed.{reachedAs}
 use Rattle.bench.specs.History.{bodyLen, askedAt, callsFrom, callsIn, scriptAt, replayed, Replayed}

@@ -6,7 +6,7 @@ use native.Mathlib.Omega.{arith}
 use Rattle.meaning.specs.declared.answer.Answer.{Answer}
 use Rattle.meaning.specs.declared.answer.Answer.the-variants.{Done, Refused}
 use Rattle.meaning.specs.Numbers.{seen}
-use Rattle.queue.specs.Run.{isRefused}
+use Rattle.lent.specs.Run.{isRefused}
 use Rattle.bench.specs.Packed.{packed, reachedAs}
 
 pub reached-refused : (a : Answer) (n : ℕ) → isRefused a ≡ true → packed (seen a) ≡ reachedAs a n

@@ -8,9 +8,9 @@ use Rattle.meaning.specs.declared.answer.Answer.the-variants.{Done}
 use Rattle.meaning.specs.State.{Script, fresh}
 use Rattle.meaning.specs.World.{opened, Result, result}
 use Rattle.meaning.specs.Plan.{Plan, exec}
-use Rattle.queue.specs.Words.{runOf}
-use Rattle.queue.specs.Loans.{engine, reads, Makes}
-use Rattle.queue.proofs.MadeLaws.{keeps}
+use Rattle.lent.specs.Words.{runOf}
+use Rattle.lent.specs.Loans.{engine, reads, Makes}
+use Rattle.lent.proofs.MadeLaws.{keeps}
 use Rattle.entry.specs.declared.state.State as code
 use Rattle.entry.specs.Served.{encoded, startedRun}
 use Rattle.bench.specs.Packed.{reachedAs}

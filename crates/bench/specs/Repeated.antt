@@ -6,7 +6,7 @@ use Rattle.meaning.specs.declared.answer.Answer.the-variants.{Done}
 use Rattle.meaning.specs.State.{Script}
 use Rattle.meaning.specs.World.{opened, Result, result}
 use Rattle.meaning.specs.Plan.{Plan, exec}
-use Rattle.format.specs.Rules.{layout}
+use Rattle.rules.specs.Rules.{layout}
 use Rattle.bench.specs.Packed.{reachedAs}
 use Rattle.bench.specs.History.{scriptAt}
 

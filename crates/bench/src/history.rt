@@ -1,16 +1,16 @@
 // Call records end to end, made one after another.
+use calls::make_call;
 use entry::decode::Decoded;
 use entry::decode::decode;
+use lent::formatter::Formatter;
+use lent::formatter::refuse;
+use lent::ring::Queue;
 use meaning::answer::Refusal;
-use output::calls::make_call;
-use queue::formatter::Formatter;
-use queue::formatter::refuse;
-use queue::ring::Queue;
 ghost use mathlib.Core.Path.{_≡_};
 ghost use Prim.Native.Nat.{_+_, _<_};
 ghost use lib.ListN.{length, take, drop, getD};
 ghost use Rattle.entry.specs.Served.{asCall};
-ghost use Rattle.queue.specs.Loans.{Made};
+ghost use Rattle.lent.specs.Loans.{Made};
 ghost use Rattle.bench.specs.History.{bodyLen, askedAt, callsIn};
 
 // How many bytes stand behind a byte of kind: none behind an unknown one.

@@ -8,9 +8,9 @@ use crate::pack::pack;
 use crate::pack::reached;
 use entry::state::fresh;
 use entry::state::started;
-use format::runs::layout;
-use format::whole::whole;
 use meaning::answer::Answer;
+use rules::node::layout;
+use rules::whole::whole;
 use tree::record::RecordNo;
 use tree::table::decode;
 use tree::table::first;
@@ -21,7 +21,7 @@ ghost use Rattle.meaning.specs.Opening.{opening};
 ghost use Rattle.meaning.specs.Numbers.{seen};
 ghost use Rattle.bench.specs.Packed.{packed, found};
 ghost use Rattle.bench.specs.History.{Replayed};
-ghost use Rattle.format.specs.Whole.{whole};
+ghost use Rattle.rules.specs.Whole.{whole};
 ghost use Rattle.bench.specs.Repeated.{Repeats, onNode};
 
 // The check of UTF-8.

@@ -1,15 +1,15 @@
 // An answer as one number.
+use lent::formatter::Formatter;
+use lent::formatter::answer;
+use lent::formatter::len;
+use lent::formatter::stopped;
 use meaning::answer::Answer;
 use meaning::answer::number;
 use meaning::answer::place;
-use queue::formatter::Formatter;
-use queue::formatter::answer;
-use queue::formatter::len;
-use queue::formatter::stopped;
 use unicode::utf8::Formed;
 ghost use mathlib.Core.Path.{_≡_};
 ghost use Rattle.meaning.specs.Numbers.{seen};
-ghost use Rattle.queue.specs.Words.{runOf};
+ghost use Rattle.lent.specs.Words.{runOf};
 ghost use Rattle.bench.specs.Packed.{packed, found, reachedAs};
 
 // The number of a refusal above 32 bits of its place.

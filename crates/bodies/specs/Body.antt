@@ -11,8 +11,8 @@ use Rattle.meaning.specs.declared.call.Call.the-variants.{Comments, Indent, Nl,
 use Rattle.meaning.specs.declared.answer.Refusal.the-variants.{WrongKind}
 use Rattle.meaning.specs.Plan.{Plan, nothing, make, refuse, _then_}
 use Rattle.steps.specs.declared.remaining.Mark.the-variants.{Comma}
-use Rattle.steps.specs.Stream.{Stream}
-use Rattle.steps.specs.Flow.{Flow, _▸_, plain, call, write, spaced, pump, expect, eat, ifNext, is, parse}
+use Rattle.walk.specs.Stream.{Stream}
+use Rattle.walk.specs.Flow.{Flow, _▸_, plain, call, write, spaced, pump, expect, eat, ifNext, is, parse}
 use Rattle.steps.specs.Seen.{each, lastly}
 use Rattle.steps.specs.Remaining.{putRemaining}
 use Rattle.steps.specs.Items.{list}

@@ -1,28 +1,28 @@
 // The bodies of structs and variants: format.rs 1389 to 1439.
 use crate::lines::before_line;
 use crate::lines::end_lines;
+use calls::comments;
+use calls::indent;
 use kinds::bytes;
+use lent::formatter::Formatter;
+use lent::ring::Queue;
 use meaning::call::Hint;
-use output::calls::comments;
-use output::calls::indent;
-use queue::formatter::Formatter;
-use queue::ring::Queue;
 use steps::items::before_item;
 use steps::items::behind_item;
 use steps::items::close_list;
 use steps::remaining::Mark;
 use steps::remaining::fresh;
 use steps::remaining::put_remaining;
-use steps::stream::left_over;
-use steps::stream::next_is;
-use steps::stream::pump;
-use steps::stream::records_of;
-use steps::tokens::any;
-use steps::tokens::token;
 use tree::record::RecordNo;
-ghost use Rattle.queue.specs.Loans.{Made};
-ghost use Rattle.steps.specs.Stream.{tree};
-ghost use Rattle.steps.specs.Flow.{parse};
+use walk::stream::left_over;
+use walk::stream::next_is;
+use walk::stream::pump;
+use walk::stream::records_of;
+use walk::tokens::any;
+use walk::tokens::token;
+ghost use Rattle.lent.specs.Loans.{Made};
+ghost use Rattle.walk.specs.Stream.{tree};
+ghost use Rattle.walk.specs.Flow.{parse};
 ghost use Rattle.bodies.specs.Body.{field, structBody, tupleBody};
 
 // A field's one node.

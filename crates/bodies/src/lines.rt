@@ -1,15 +1,15 @@
 // Items on lines of their own.
+use calls::comments;
+use calls::indent;
+use calls::nl;
+use lent::formatter::Formatter;
+use lent::ring::Queue;
 use meaning::call::Hint;
-use output::calls::comments;
-use output::calls::indent;
-use output::calls::nl;
-use queue::formatter::Formatter;
-use queue::ring::Queue;
 ghost use mathlib.Core.Path.{_≡_};
 ghost use Rattle.meaning.specs.declared.call.Hint.the-variants.{Line};
 ghost use Rattle.meaning.specs.declared.call.Call.the-variants.{Nl, Comments};
 ghost use Rattle.meaning.specs.Plan.{make, _then_};
-ghost use Rattle.queue.specs.Loans.{Made};
+ghost use Rattle.lent.specs.Loans.{Made};
 ghost use Rattle.bodies.specs.Body.{lines, lineEnd};
 
 // An item on a line of its own.

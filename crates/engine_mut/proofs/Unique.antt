@@ -4,8 +4,8 @@ use Rattle.tree.specs.declared.record.RecordNo.{RecordNo}
 use Rattle.meaning.specs.{declared.call.Call.Call, declared.answer.Answer.Answer, World.Result}
 use Rattle.meaning.specs.declared.call.Call.the-variants.{Finish}
 use Rattle.entry.specs.Served.{callLeft, recordLeft}
-use Rattle.format.specs.Rules.{laidOut}
-use Rattle.format.specs.Whole.{laidWhole}
+use Rattle.format.specs.Laid.{laidOut}
+use Rattle.format.specs.Laid.{laidWhole}
 use Rattle.engine_mut.specs.{declared.Engine.Engine, Stored.Stored}
 
 -- the answer, the engine behind the reference and the buffer, whole

@@ -8,11 +8,11 @@ use Rattle.tree.specs.declared.record.RecordNo.{RecordNo}
 use Rattle.meaning.specs.declared.answer.Answer.{Answer}
 use Rattle.meaning.specs.declared.call.Call.{Call}
 use Rattle.meaning.specs.World.{Result}
-use Rattle.queue.specs.Loans.{Loan}
+use Rattle.lent.specs.Loans.{Loan}
 use Rattle.entry.specs.declared.state.Step.{Step}
 use Rattle.entry.specs.Served.{leftOf, callLeft, recordLeft}
-use Rattle.format.specs.Rules.{laidOut}
-use Rattle.format.specs.Whole as format
+use Rattle.format.specs.Laid.{laidOut}
+use Rattle.format.specs.Laid as format
 use Rattle.engine_mut.specs.declared.Engine.{Engine}
 
 -- the engine with what is handed back in it

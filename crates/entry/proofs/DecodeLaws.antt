@@ -5,7 +5,7 @@ use mathlib.Core.Option.{Option, none, some}
 use Rattle.tree.specs.{declared.record.RecordNo.RecordNo, Records.four}
 use Rattle.meaning.specs.declared.call.Call.{Call}
 use Rattle.meaning.specs.declared.call.Call.the-variants.{WriteOwned, WriteRaw, Ignore}
-use Rattle.meaning.specs.CallRecord.{Body, a-number, listed, a-byte, nothing, bodies, at, readBody, readAs, ofKind, decode}
+use Rattle.meaning.specs.CallRecord.{Body, a-number, listed, a-byte, nothing, bodyForms, at, readBody, readAs, ofKind, decode}
 use Rattle.entry.specs.Served.{numbered}
 
 pub at-none : (cs : List Call) (n : ℕ) → length cs ≤ n → none ≡ at cs n

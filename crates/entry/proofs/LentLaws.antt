@@ -10,9 +10,9 @@ use Rattle.meaning.specs.{declared.answer.Answer.the-variants.Refused, State.Sc
 use Rattle.meaning.specs.{Outcome.refused, Outcome.refuseIf, Calls.step, CallRecord.decode, CallRecord.asked, Lent.anyOutside, Lent.lentState}
 use Rattle.meaning.specs.{Lent.lent, Lent.serve, Lent.serveRecord, World.World, World.world, World.capacity, World.Result, World.result, World.made}
 use Rattle.meaning.specs.{World.call, World.callRecord, Plan.make, Plan.refuse, Plan.goOn, Plan.exec}
-use Rattle.queue.specs.{Run.Run, Run.isRefused, Run.answered, View.ringAt, View.queueOf, View.view, View.resultOf}
+use Rattle.lent.specs.{Run.Run, Run.isRefused, Run.answered, View.ringAt, View.queueOf, View.view, View.resultOf}
 use Rattle.entry.specs.Served.{checkedAnswer, lentAnswer, lentRun, askedPlan}
-use Rattle.queue.proofs.TabLaws.{length-tab}
+use Rattle.lent.proofs.TabLaws.{length-tab}
 
 -- ---- waiting spans
 

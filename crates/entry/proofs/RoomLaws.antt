@@ -1,4 +1,4 @@
--- Which tables have room for a tree: the full one for all, a small one for short ones. Assumes nothing.
+-- Which tables have room for a tree: the full one for all, a smaller one for short ones. Assumes nothing.
 use Prim.Native.Nat.{ℕ, zero, suc, _≤_, _+_, _*_}
 use native.Mathlib.Omega.{arith}
 use mathlib.Core.Path.{_≡_}
@@ -28,5 +28,6 @@ records-short (suc k) (b ∷ bs) zero h l = omega (arith, records-short k bs 0 (
 records-short (suc k) (b ∷ bs) (suc m) h l = omega (arith, records-short k bs m (omega arith) (omega arith))
 records-short zero (b ∷ bs) m h l = omega (arith, records-short (bodyOf b) bs 8 (body-long b) (omega arith))
 
-pub small-room : (list words : List ℕ) → length list ≤ 18423 → length words ≡ 8192 → Room list words
-small-room list words h e few = omega (arith, records-short 0 list 0 (omega arith) (omega arith))
+-- a table of n records has room for every tree of nine bytes a record
+pub short-room : (list words : List ℕ) (n : ℕ) → length list ≤ n * 9 → length words ≡ n * 4 → Room list words
+short-room list words n h e few = omega (arith, records-short 0 list 0 (omega arith) (omega arith))

@@ -15,13 +15,13 @@ use Rattle.meaning.specs.{Outcome.done, Outcome.refused, Outcome.refuseIf, Call
 use Rattle.meaning.specs.{World.result, World.made, Plan.Plan, Plan.nothing, Plan.make, Plan.refuse, Plan._then_, Plan.exec, Plan.zeroed}
 use Rattle.meaning.specs.{Plan.putBack, Plan.answerOf, Plan.ready, Plan.run, Lent.anyOutside, Lent.lentState, Opening.answerTo, Opening.scriptIn}
 use Rattle.meaning.proofs.Step.{fair}
-use Rattle.queue.proofs.{MadeLaws.keeps, TabLaws.length-tab}
+use Rattle.lent.proofs.TabLaws.{length-tab}
 use Rattle.entry.specs.Room.{Room}
 use Rattle.entry.specs.declared.state.State as code
 use Rattle.entry.specs.{declared.state.Step.Step, Served.startedRun, Served.stateOf, Served.leftOf, Served.checkedAnswer, Served.lentAnswer}
-use Rattle.entry.specs.{Served.lentRun, Served.Served, Ended.endedBuffer, Ended.Ended, Ended.runLeft}
-use Rattle.queue.specs.{Run.Run, Run.readyAnswer, Run.readyRun, View.ringAt, View.queueOf, View.view, View.resultOf, View.scriptOf, Words.runOf}
-use Rattle.queue.specs.{Words.Readied, Loans.engine, Loans.reads, Loans.Makes}
+use Rattle.entry.specs.{Served.lentRun, Served.Served, Ended.endedBuffer, Ended.Ended, Ended.runLeft, Ended.begun}
+use Rattle.lent.specs.{Run.Run, Run.readyAnswer, Run.readyRun, View.ringAt, View.queueOf, View.view, View.resultOf, View.scriptOf, Words.runOf}
+use Rattle.lent.specs.{Words.Readied, Loans.Engine, Loans.engine, Loans.reads, Loans.Makes}
 use Rattle.entry.proofs.ServeLaws.{either-script, lent-refused}
 
 -- ---- bytes below the output's length stay
@@ -104,31 +104,37 @@ run-is opening x p {s} b₀ {r} {q} {b} {z} {b′} e l k =
     let c : take (s .now .len) b ≡ take (s .now .len) b₀ = ap (λ (y : Result). take (s .now .len) (y .left .buffer)) e ∙ f .same in
     rw (← e) (back s b₀ b (r .answer) (view r q) z b′ c l (k .step) (k .buffer))
 
--- the same over the lent bytes: the table is decoded, the checks are made, and the plan runs on what they leave
-module _ (src list words table : List ℕ) (n : RecordNo) (d : Decoded list words (n .0) table) (room : Room list words) (s : code.State) (b₀ : List ℕ) {a₀ : Answer} (ea : a₀ ≡ answerTo (opened src list))
-    {r₀ r₁ : Run} (w : List ℕ) {t : Bool} (e₀ : r₀ ≡ startedRun (s .now) a₀) (e₁ : r₁ ≡ lentRun src (s .queue) (length b₀) r₀) (eg : Readied r₁ (runOf w) t) where
+-- ---- over the lent bytes
+
+-- the table is decoded, the checks are made on the lent words w₀, and the plan runs on what they leave
+module _ (src list words table : List ℕ) (n : RecordNo) (d : Decoded list words (n .0) table) (room : Room list words) (w₀ q₀ b₀ : List ℕ) (ea : runOf w₀ .answer ≡ answerTo (opened src list))
+    {r₁ : Run} (w : List ℕ) {t : Bool} (e₁ : r₁ ≡ lentRun src q₀ (length b₀) (runOf w₀)) (eg : Readied r₁ (runOf w) t) where
   start : Run
-  start = readyRun (lentRun src (s .queue) (length b₀) (startedRun (s .now) a₀))
+  start = readyRun (lentRun src q₀ (length b₀) (runOf w₀))
 
   go-is : runOf w ≡ start
   unfolding start
-  go-is = eg .is ∙ ap readyRun (e₁ ∙ ap (lentRun src (s .queue) (length b₀)) e₀)
+  go-is = eg .is ∙ ap readyRun e₁
 
   still-refused : (e : Refusal) → answerTo (opened src list) ≡ Refused e → start .answer ≡ Refused e
   unfolding start readyRun lentRun
-  still-refused e h = rw (lent-refused a₀ (ltb (length b₀) (s .now .len)) (ltb 256 (s .now .count) || anyOutside src (queueOf (s .queue) 0 (s .now .count))) (ltb 64 (s .now .indent)) (startedRun (s .now) a₀) e (ea ∙ h))
-
-  -- begun so, it is where a run begins
-  begins : resultOf start (s .queue) b₀ ≡ result (ready a₀ (scriptIn src list) (world (stateOf s) b₀)) (world (stateOf s) b₀)
-  unfolding start readyRun lentRun
-  begins = ap (λ (a : Answer). result a (world (stateOf s) b₀)) (ready-at a₀ (scriptIn src list) (startedRun (s .now) a₀) (s .queue) b₀)
+  still-refused e h = rw (lent-refused (runOf w₀ .answer) (ltb (length b₀) (runOf w₀ .len)) (ltb 256 (runOf w₀ .count) || anyOutside src (queueOf q₀ (runOf w₀ .head) (runOf w₀ .count))) (ltb 64 (runOf w₀ .indent)) (runOf w₀) e (ea ∙ h))
 
   -- the plan may hang on the tree
-  pub serve-run : (p : List Record → Plan) {tb w′ q b : List ℕ} {z : Step} {b′ : List ℕ} → tb ≡ take (n .0 * 4) table → Makes (scriptOf src tb) (p (treeOf tb)) (engine w (s .queue) b₀) (engine w′ q b) → Ended s (runOf w′) q b z b′
-      → Served s z b′ (runLeft src list s b₀ (p (records list)))
+  pub ran-begun : (p : List Record → Plan) {tb : List ℕ} {e : Engine} → tb ≡ take (n .0 * 4) table → Makes (scriptOf src tb) (p (treeOf tb)) (engine w q₀ b₀) e
+      → reads e ≡ exec (scriptIn src list) (p (records list)) (begun src w₀ q₀ b₀)
+  unfolding reads begun start
+  ran-begun p {tb} et h =
+      h .ran .ran ∙ ap (λ (g : Run). exec (scriptOf src tb) (p (treeOf tb)) (resultOf g q₀ b₀)) go-is
+      ∙ rw et (either-script src list words table n d room p (opened src list) refl (start .answer) (world (view start q₀) b₀) still-refused)
+
+-- and what that leaves is what the meaning's run leaves, where the words began from the lent state s
+module _ (src list : List ℕ) (s : code.State) (b₀ : List ℕ) (p : Plan) {a₀ : Answer} (ea : a₀ ≡ answerTo (opened src list)) (w₀ : List ℕ) (e₀ : runOf w₀ ≡ startedRun (s .now) a₀) where
+  begins : begun src w₀ (s .queue) b₀ ≡ result (ready a₀ (scriptIn src list) (world (stateOf s) b₀)) (world (stateOf s) b₀)
+  unfolding begun readyRun lentRun
+  begins = rw e₀ (ap (λ (a : Answer). result a (world (stateOf s) b₀)) (ready-at a₀ (scriptIn src list) (startedRun (s .now) a₀) (s .queue) b₀))
+
+  pub serve-ran : (w′ q b : List ℕ) {z : Step} {b′ : List ℕ} → reads (engine w′ q b) ≡ exec (scriptIn src list) p (begun src w₀ (s .queue) b₀) → length b ≡ length b₀ → Ended s (runOf w′) q b z b′
+      → Served s z b′ (runLeft src list s b₀ p)
   unfolding reads
-  serve-run p {tb} {w′} {q} {b} et h k =
-      let e : resultOf (runOf w′) q b ≡ exec (scriptIn src list) (p (records list)) (resultOf start (s .queue) b₀) =
-      h .ran .ran ∙ ap (λ (g : Run). exec (scriptOf src tb) (p (treeOf tb)) (resultOf g (s .queue) b₀)) go-is
-      ∙ rw et (either-script src list words table n d room p (opened src list) refl (start .answer) (world (view start (s .queue)) b₀) still-refused) in
-      rw (← ea) (run-is a₀ (scriptIn src list) (p (records list)) b₀ (e ∙ ap (exec (scriptIn src list) (p (records list))) begins) (keeps h) k)
+  serve-ran w′ q b e l k = rw (← ea) (run-is a₀ (scriptIn src list) p b₀ (e ∙ ap (exec (scriptIn src list) p) begins) l k)

@@ -18,9 +18,9 @@ use Rattle.entry.specs.{declared.state.Small.Small, declared.state.Step.
 use Rattle.entry.specs.{Served.lentAnswer, Served.lentRun, Served.asCall, Served.askedPlan, Served.Served, Served.callLeft, Served.recordLeft}
 use Rattle.entry.specs.declared.state.State as code
 use Rattle.entry.specs.declared.decode.Decoded as read
-use Rattle.queue.specs.{Run.Run, Run.isRefused, View.ringAt, View.queueOf, View.slotsOf, View.flagOf, View.view, View.resultOf, View.scriptOf}
-use Rattle.queue.specs.{Words.runOf, Loans.engine, Loans.reads, Loans.Makes}
-use Rattle.queue.proofs.TabLaws.{length-tab}
+use Rattle.lent.specs.{Run.Run, Run.isRefused, View.ringAt, View.queueOf, View.slotsOf, View.flagOf, View.view, View.resultOf, View.scriptOf}
+use Rattle.lent.specs.{Words.runOf, Loans.engine, Loans.reads, Loans.Makes}
+use Rattle.lent.proofs.TabLaws.{length-tab}
 use Rattle.entry.proofs.LentLaws.{lent-call, lent-record}
 
 -- ---- the table is the tree, where opening lets it in; else a refusal stands, whatever the script

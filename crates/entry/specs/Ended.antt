@@ -7,11 +7,17 @@ use Rattle.meaning.specs.declared.answer.Answer.the-variants.{Done, Refused}
 use Rattle.meaning.specs.World.{world, Result}
 use Rattle.meaning.specs.Plan.{Plan, zeroed, run}
 use Rattle.meaning.specs.Opening.{scriptIn, opening}
-use Rattle.queue.specs.Run.{Run}
+use Rattle.lent.specs.Run.{Run, readyRun}
 use Rattle.entry.specs.declared.state.State as code
 use Rattle.entry.specs.declared.state.Step.{Step}
-use Rattle.queue.specs.View.{view}
-use Rattle.entry.specs.Served.{leftOf, stateOf}
+use lib.ListN.{length}
+use Rattle.lent.specs.View.{view, resultOf}
+use Rattle.lent.specs.Words.{runOf}
+use Rattle.entry.specs.Served.{leftOf, stateOf, lentRun}
+
+-- where a run begins: the lent words w, past the checks on what is lent and 10
+unfoldable pub begun : List ℕ → List ℕ → List ℕ → List ℕ → Result
+begun src w q b = resultOf (readyRun (lentRun src q (length b) (runOf w))) q b
 
 -- n is the output's length before the run
 abbrev pub endedBuffer : Answer → ℕ → List ℕ → List ℕ

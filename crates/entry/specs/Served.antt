@@ -22,14 +22,19 @@ use Rattle.entry.specs.declared.state.State as code
 use Rattle.entry.specs.declared.state.Step.{Step}
 use Rattle.entry.specs.declared.decode.Decoded.{Decoded}
 use Rattle.entry.specs.declared.decode.Decoded.the-variants as decoded
-use Rattle.queue.specs.Run.{Run, answered}
-use Rattle.queue.specs.View.{queueOf, view, slotsOf}
+use Rattle.lent.specs.Run.{Run, answered}
+use Rattle.lent.specs.View.{queueOf, view, slotsOf}
 
 -- ---- the state as a caller holds it
 
 abbrev pub startedRun : Small → Answer → Run
 startedRun s a =
     record { answer = a; len = s .len; head = 0; count = s .count; lines = s .lines; useLines = s .«use_lines»; ws = s .ws; indent = s .indent; finished = s .finished }
+
+-- the scalars of a run, as a caller holds them
+abbrev pub nowOf : Run → Small
+nowOf r =
+    record { len = r .len; count = r .count; lines = r .lines; «use_lines» = r .useLines; ws = r .ws; indent = r .indent; finished = r .finished }
 
 -- what a lent state means
 abbrev pub stateOf : code.State → State

@@ -1,24 +1,24 @@
 // The checks on what is lent, before all else: 1, 2, 3, 7 as at opening, then 4, 5, 6 on the state.
+use lent::formatter::Formatter;
+use lent::formatter::count;
+use lent::formatter::head;
+use lent::formatter::indent;
+use lent::formatter::len;
+use lent::formatter::refused;
+use lent::formatter::stopped;
+use lent::ring::Queue;
+use lent::ring::comment_at;
 use meaning::answer::Answer;
 use meaning::answer::Refusal;
 use opening::open::Opening;
-use queue::formatter::Formatter;
-use queue::formatter::count;
-use queue::formatter::head;
-use queue::formatter::indent;
-use queue::formatter::len;
-use queue::formatter::refused;
-use queue::formatter::stopped;
-use queue::ring::Queue;
-use queue::ring::comment_at;
 use text::chars::in_source;
 use tree::record::RecordNo;
 ghost use mathlib.Core.Path.{_≡_};
 ghost use Rattle.opening.specs.Opening.{opened};
 ghost use Rattle.meaning.specs.Lent.{anyOutside};
 ghost use Rattle.meaning.specs.Opening.{answerTo};
-ghost use Rattle.queue.specs.View.{queueOf};
-ghost use Rattle.queue.specs.Words.{runOf};
+ghost use Rattle.lent.specs.View.{queueOf};
+ghost use Rattle.lent.specs.Words.{runOf};
 ghost use Rattle.entry.specs.Served.{lentRun};
 
 // What opening answers to a source and a tree.

@@ -7,16 +7,16 @@ use crate::state::Step;
 use crate::state::fresh;
 use crate::state::left;
 use crate::state::started;
+use calls::make_call;
+use lent::formatter::Formatter;
+use lent::formatter::refuse;
+use lent::ring::Queue;
 use meaning::answer::Refusal;
 use meaning::call::Call;
-use output::calls::make_call;
-use queue::formatter::Formatter;
-use queue::formatter::refuse;
-use queue::ring::Queue;
 use tree::table::decode;
 use tree::table::first;
 ghost use mathlib.Core.Path.{_≡_};
-ghost use Rattle.queue.specs.Loans.{Made};
+ghost use Rattle.lent.specs.Loans.{Made};
 ghost use Rattle.entry.specs.Served.{Served, callLeft, recordLeft, openLeft, asCall, askedPlan};
 
 // A fresh engine, or refusal 1, 2, 3 or 7.

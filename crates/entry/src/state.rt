@@ -1,25 +1,25 @@
 // The engine's state as a caller holds it, and what a public function hands back.
+use lent::formatter::Formatter;
+use lent::formatter::answer;
+use lent::formatter::count;
+use lent::formatter::finished;
+use lent::formatter::head;
+use lent::formatter::indent;
+use lent::formatter::len;
+use lent::formatter::lines;
+use lent::formatter::spaced;
+use lent::formatter::stopped;
+use lent::formatter::use_lines;
+use lent::ring::Queue;
+use lent::ring::tidy;
 use meaning::answer::Answer;
 use meaning::answer::number;
 use meaning::answer::place;
-use queue::formatter::Formatter;
-use queue::formatter::answer;
-use queue::formatter::count;
-use queue::formatter::finished;
-use queue::formatter::head;
-use queue::formatter::indent;
-use queue::formatter::len;
-use queue::formatter::lines;
-use queue::formatter::spaced;
-use queue::formatter::stopped;
-use queue::formatter::use_lines;
-use queue::ring::Queue;
-use queue::ring::tidy;
 ghost use mathlib.Core.Path.{_≡_};
 ghost use Rattle.meaning.specs.State.{fresh};
-ghost use Rattle.queue.specs.View.{flagOf};
-ghost use Rattle.queue.specs.Words.{runOf};
-ghost use Rattle.entry.specs.Served.{encoded, startedRun, Left};
+ghost use Rattle.lent.specs.View.{flagOf};
+ghost use Rattle.lent.specs.Words.{runOf};
+ghost use Rattle.entry.specs.Served.{encoded, startedRun, nowOf, Left};
 
 // The scalars; the queue has `count` comments.
 pub struct Small {
@@ -90,6 +90,21 @@ pub fn started(now: Small, answer: Answer) -> Formatter
     ]
 }
 
+// The scalars that the words have.
+pub fn now_of(fmt: &Formatter) -> Small
+    ensures { λ r. ⌜ r ≡ nowOf (runOf (now (fmt .entry))) ⌝ }
+{
+    Small {
+        len: len(fmt),
+        count: count(fmt),
+        lines: lines(fmt),
+        use_lines: use_lines(fmt),
+        ws: spaced(fmt),
+        indent: indent(fmt),
+        finished: finished(fmt),
+    }
+}
+
 // What is handed back: after a refusal the state that was lent, else the one that the words and the ring have.
 pub fn left(s: State, fmt: &Formatter, queue: &Queue) -> Step
     ensures { λ z. ⌜ Left s (runOf (now (fmt .entry))) (now (queue .entry)) z ⌝ }
@@ -98,15 +113,7 @@ pub fn left(s: State, fmt: &Formatter, queue: &Queue) -> Step
     if stopped(fmt) {
         return Step { answer, state: s };
     }
-    let now = Small {
-        len: len(fmt),
-        count: count(fmt),
-        lines: lines(fmt),
-        use_lines: use_lines(fmt),
-        ws: spaced(fmt),
-        indent: indent(fmt),
-        finished: finished(fmt),
-    };
+    let now = now_of(fmt);
     let queue = tidy(queue, head(fmt), count(fmt));
     let state = State { now, queue };
     Step { answer, state }

@@ -1,9 +1,9 @@
 -- Laws of arms: the comma behind one, and that a turn takes a record. Assumes nothing.
 use Rattle.steps.proofs.Rules.{_≡_, refl, sym, _∙_, Bool, true, false, List, ℕ, RecordNo, Kind, Line, Comments, Nl, Script, Plan, make, _then_, Engine, Makes, Stream, nextIs, takeAny}
 use Rattle.steps.proofs.Rules.{_▸_, pump, is, Goes, Falls, Takes, Each, pump-takes, taking-falls, _takes-then_}
-use Rattle.steps.specs.Stream.{no, nextIn}
-use Rattle.steps.specs.Flow.{Got}
-use Rattle.queue.proofs.MadeLaws as made
+use Rattle.walk.specs.Stream.{no, nextIn}
+use Rattle.walk.specs.Flow.{Got}
+use Rattle.lent.proofs.MadeLaws as made
 use Rattle.gaps.specs.Arms.{isBlockArm, armComma, openArm}
 use Rattle.gaps.proofs.Laws.{comma-leaves}
 use Rattle.exprs.specs.Rule.{Rule, Below}

@@ -6,9 +6,9 @@ use lib.ListN.{getD}
 use Rattle.tree.specs.declared.cursor.Cursor.{Cursor}
 use Rattle.tree.specs.Cursor.{foundOf, headOf, behind, cursorOf, kept, shown}
 use Rattle.tree.proofs.Laws.{kept-few, tree-few}
-use Rattle.queue.proofs.MadeLaws as made
-use Rattle.steps.specs.Stream.{streamAt}
-use Rattle.steps.specs.Flow.{Got}
+use Rattle.lent.proofs.MadeLaws as made
+use Rattle.walk.specs.Stream.{streamAt}
+use Rattle.walk.specs.Flow.{Got}
 use Rattle.loose.specs.Chain.{chainFrom}
 use Rattle.parts.specs.Links.{breakLink, chainEnd}
 use Rattle.exprs.specs.Rule.{Rule, Below}

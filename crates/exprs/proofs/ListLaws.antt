@@ -4,13 +4,13 @@ use Rattle.steps.proofs.Rules.{nothing, make, Engine, Stream, recordsOf, _▸_,
 use Rattle.steps.proofs.Rules.{Falls, Leaves, pump-takes, pump-leaves, plain-leaves, next-leaves, taking-falls, _takes-then_, _leaves-then_, turn-falls}
 use Rattle.tree.specs.{declared.cursor.Cursor.Cursor, Cursor.foundOf, Cursor.headOf, Cursor.behind, Cursor.childrenOf}
 use Rattle.tree.proofs.Laws.{found-is}
-use Rattle.unicode.proofs.Bools.{le-or-lt}
-use Rattle.steps.specs.Stream.{Peeked}
-use Rattle.steps.proofs.StreamLaws.{found-same}
+use Rattle.white.proofs.Bools.{le-or-lt}
+use Rattle.walk.specs.Stream.{Peeked}
+use Rattle.walk.proofs.StreamLaws.{found-same}
 use Rattle.patterns.specs.Pattern.{objectName, silent}
 use Rattle.loose.specs.declared.reason.Reason.{Reason}
 use Rattle.loose.specs.Reason.{reason, isLoose}
-use Rattle.queue.proofs.MadeLaws as made
+use Rattle.lent.proofs.MadeLaws as made
 use Rattle.gaps.specs.Lines.{endEntry, keyLine, nextKey}
 use Rattle.gaps.proofs.Laws.{entry-leaves, key-takes, next-takes}
 use Rattle.parts.specs.Spaced.{isExpr}
@@ -36,21 +36,21 @@ module _ (x : Script) (lay : Below) where
 
 -- ---- the reason
 
-module _ {x : Script} (lay : Below) {k : RecordNo} {s s′ : Stream} {e e′ : Engine} (h : s ≡ recordsOf (x .tree) k) {r : Reason} {t : Bool} (p : t ≡ isLoose r) where
-  pub exprs-of : (opening closing : ℕ) {c : Cursor} → c ≡ childrenOf (x .tree) (k .0) → r ≡ reason x false k (c .at .0)
+module _ {x : Script} (lay : Below) {k : RecordNo} {s s′ : Stream} {e e′ : Engine} (h : s ≡ recordsOf (x .tree) k) {t : Bool} where
+  pub exprs-of : (opening closing : ℕ) {c : Cursor} → c ≡ childrenOf (x .tree) (k .0) → t ≡ isLoose (reason x false k (c .at .0))
       → Goes x (expectByte (x .tree) opening write ▸ cond t (loose x lay) (compact x lay) ▸ expectByte (x .tree) closing write) s e e′ s′ → Goes x (exprs x lay opening closing) s e e′ s′
   unfolding exprs
   exprs-of opening closing {c} q w y =
       let z : isLoose (reason x false (s .node) (childrenOf (x .tree) (s .node .0) .at .0)) ≡ t =
-      ap (λ (z : Stream). isLoose (reason x false (z .node) (childrenOf (x .tree) (z .node .0) .at .0))) h ∙ sym (p ∙ ap isLoose (w ∙ ap (λ (c : Cursor). reason x false k (c .at .0)) q)) in
+      ap (λ (z : Stream). isLoose (reason x false (z .node) (childrenOf (x .tree) (z .node .0) .at .0))) h ∙ sym (w ∙ ap (λ (c : Cursor). isLoose (reason x false k (c .at .0))) q) in
       record { ran = rw z (y .ran); at = rw z (y .at) }
 
-  pub object-of : {from : ℕ} → from ≡ behindName (x .tree) (s .left) → r ≡ reason x true k from
+  pub object-of : {from : ℕ} → from ≡ behindName (x .tree) (s .left) → t ≡ isLoose (reason x true k from)
       → Goes x (objectName (x .tree) ▸ expect (x .tree) Kind.OpenBrace write ▸ cond t (rows x lay) (row x lay)) s e e′ s′ → Goes x (object x lay) s e e′ s′
   unfolding object
   object-of {from} q w y =
       let z : isLoose (reason x true (s .node) (behindName (x .tree) (s .left))) ≡ t =
-      ap (λ (z : Stream). isLoose (reason x true (z .node) (behindName (x .tree) (s .left)))) h ∙ sym (p ∙ ap isLoose (w ∙ ap (reason x true k) q)) in
+      ap (λ (z : Stream). isLoose (reason x true (z .node) (behindName (x .tree) (s .left)))) h ∙ sym (w ∙ ap (λ (from : ℕ). isLoose (reason x true k from)) q) in
       record { ran = rw z (y .ran); at = rw z (y .at) }
 
 behind-past : (rs : List Record) (k : ℕ) → length rs ≤ k → behind rs k ≡ length rs

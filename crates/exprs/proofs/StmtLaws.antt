@@ -1,9 +1,9 @@
 -- Laws of statements one by one, and of the body around them. Assumes nothing.
 use Rattle.steps.proofs.Rules.{_≡_, refl, sym, ap, _∙_, Bool, true, false, List, ℕ, _<_, length, RecordNo, nodeOf, Line, Comments, Script, make, _then_, Engine, Makes}
 use Rattle.steps.proofs.Rules.{nothing-made, Stream, nextIs, takeAny, _▸_, plain, pump, Goes, _▹_, Falls, Going, starts, goes-on, done, falls, pump-takes, _takes-then_}
-use Rattle.queue.proofs.MadeLaws as made
-use Rattle.steps.specs.Flow.{Got}
-use Rattle.steps.specs.Loop.{loop}
+use Rattle.lent.proofs.MadeLaws as made
+use Rattle.walk.specs.Flow.{Got}
+use Rattle.walk.specs.Loop.{loop}
 use Rattle.gaps.specs.Statements.{gap, semicolon, isSpread, enter, leave}
 use Rattle.gaps.proofs.Laws.{semi-leaves}
 use Rattle.exprs.specs.Rule.{Below}

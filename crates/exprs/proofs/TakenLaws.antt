@@ -1,9 +1,9 @@
 -- Laws of the record that was taken where one stood next. Assumes nothing.
 use Rattle.steps.proofs.Rules.{_≡_, refl, sym, ap, _∙_, Bool, true, List, [], _∷_, ℕ, arith, RecordNo, Stream, nextIn, nextIs, takeIn, takeIf, takeAny}
 use Rattle.tree.specs.{Cursor.foundOf, Cursor.headOf}
-use Rattle.steps.specs.Stream.{no}
-use Rattle.steps.specs.Flow.{Got}
-use Rattle.steps.proofs.StreamLaws.{found-same}
+use Rattle.walk.specs.Stream.{no}
+use Rattle.walk.specs.Flow.{Got}
+use Rattle.walk.proofs.StreamLaws.{found-same}
 
 -- what is taken, whatever it is, is the first of the records left
 pub take-head : (s : Stream) → takeAny s .found ≡ headOf (s .left)

@@ -9,9 +9,9 @@ use Rattle.meaning.specs.declared.call.Literal.the-variants.{Braces}
 use Rattle.meaning.specs.declared.call.Call.the-variants.{Comments, Nl, Lit}
 use Rattle.meaning.specs.Plan.{Plan, nothing, make, _then_}
 use Rattle.meaning.specs.State.{Script}
-use Rattle.steps.specs.Stream.{Stream, no, isByte, nextIs}
-use Rattle.steps.specs.Flow.{Flow, _▸_, plain, call, write, pump, expect, ifNext, is}
-use Rattle.steps.specs.Loop.{loop}
+use Rattle.walk.specs.Stream.{Stream, no, isByte, nextIs}
+use Rattle.walk.specs.Flow.{Flow, _▸_, plain, call, write, pump, expect, ifNext, is}
+use Rattle.walk.specs.Loop.{loop}
 use Rattle.steps.specs.Seen.{each, lastly}
 use Rattle.gaps.specs.Arms.{isBlockArm, armComma, openSelect, openMatch, openArm, closeArms, closeSelect}
 use Rattle.parts.specs.Spaced.{expectGuard, word, between}

@@ -9,9 +9,9 @@ use Rattle.meaning.specs.declared.call.Hint.the-variants.{Line}
 use Rattle.meaning.specs.declared.call.Call.the-variants.{Comments}
 use Rattle.meaning.specs.Plan.{Plan, nothing, make, _then_}
 use Rattle.meaning.specs.State.{Script}
-use Rattle.steps.specs.Stream.{Stream}
-use Rattle.steps.specs.Flow.{Flow, flow, _▸_, plain, write, pump, expect}
-use Rattle.steps.specs.Loop.{loop}
+use Rattle.walk.specs.Stream.{Stream}
+use Rattle.walk.specs.Flow.{Flow, flow, _▸_, plain, write, pump, expect}
+use Rattle.walk.specs.Loop.{loop}
 use Rattle.paths.specs.Attribute.{innerAttributes}
 use Rattle.gaps.specs.Statements.{gap, semicolon, isSpread, enter, leave}
 use Rattle.parts.specs.Sorts.{isItem, isLet}

@@ -8,9 +8,9 @@ use Rattle.kinds.specs.Facts.{byteOf}
 use Rattle.meaning.specs.declared.answer.Refusal.the-variants.{WrongKind}
 use Rattle.meaning.specs.Plan.{Plan, nothing, refuse, _then_}
 use Rattle.meaning.specs.State.{Script}
-use Rattle.steps.specs.Stream.{Stream}
-use Rattle.steps.specs.Flow.{Flow, flow, _▸_, pump, is, parse}
-use Rattle.steps.specs.Loop.{loop}
+use Rattle.walk.specs.Stream.{Stream}
+use Rattle.walk.specs.Flow.{Flow, flow, _▸_, pump, is, parse}
+use Rattle.walk.specs.Loop.{loop}
 use Rattle.loose.specs.Chain.{chainFrom}
 use Rattle.parts.specs.Links.{tried, awaited, fieldOf, openIndex, closeIndex, breakLink, chainEnd}
 use Rattle.exprs.specs.Rule.{Rule, Below}

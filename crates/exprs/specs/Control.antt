@@ -9,9 +9,9 @@ use Rattle.meaning.specs.declared.call.Literal.the-variants.{Braces}
 use Rattle.meaning.specs.declared.call.Call.the-variants.{Ws, Lit}
 use Rattle.meaning.specs.Plan.{Plan}
 use Rattle.meaning.specs.State.{Script}
-use Rattle.steps.specs.Stream.{Stream}
-use Rattle.steps.specs.Flow.{Flow, _▸_, call, write, pump, expect, ifNext, is, parse}
-use Rattle.steps.specs.Loop.{loop}
+use Rattle.walk.specs.Stream.{Stream}
+use Rattle.walk.specs.Flow.{Flow, _▸_, call, write, pump, expect, ifNext, is, parse}
+use Rattle.walk.specs.Loop.{loop}
 use Rattle.parts.specs.Spaced.{expectExpr, word, between}
 use Rattle.parts.specs.Args.{forIn}
 use Rattle.parts.specs.Heads.{letHead}

@@ -8,8 +8,8 @@ use Rattle.kinds.specs.declared.Kind.{Kind}
 use Rattle.kinds.specs.Facts.{byteOf}
 use Rattle.meaning.specs.Plan.{Plan}
 use Rattle.meaning.specs.State.{Script}
-use Rattle.steps.specs.Stream.{Stream}
-use Rattle.steps.specs.Flow.{Flow, _▸_, plain, pump, expect, parse}
+use Rattle.walk.specs.Stream.{Stream}
+use Rattle.walk.specs.Flow.{Flow, _▸_, plain, pump, expect, parse}
 use Rattle.paths.specs.Attribute.{attributes, modifiers}
 use Rattle.gaps.specs.Blocks.{asksBlock, beforeBlock, noBlock}
 use Rattle.parts.specs.Heads.{itemHead}

@@ -11,9 +11,9 @@ use Rattle.meaning.specs.declared.call.Call.the-variants.{Comments}
 use Rattle.meaning.specs.declared.answer.Refusal.the-variants.{TreeDeep}
 use Rattle.meaning.specs.Plan.{Plan, refuse}
 use Rattle.meaning.specs.State.{Script}
-use Rattle.queue.specs.Loans.{Loan, script, Made}
-use Rattle.steps.specs.Stream.{Stream, tree}
-use Rattle.steps.specs.Flow.{Flow, _▸_, call, pump, is, parse, Walked}
+use Rattle.lent.specs.Loans.{Loan, script, Made}
+use Rattle.walk.specs.Stream.{Stream, tree}
+use Rattle.walk.specs.Flow.{Flow, _▸_, call, pump, is, parse, Walked}
 use Rattle.parts.specs.Labels.{beforeExpr}
 use Rattle.parts.specs.Lone.{lone}
 use Rattle.parts.specs.Sorts.{isRange, isLoop, isLead}

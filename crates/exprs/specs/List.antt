@@ -12,9 +12,9 @@ use Rattle.meaning.specs.declared.call.Call.the-variants.{Comments, Ws}
 use Rattle.meaning.specs.Plan.{Plan, nothing, make, _then_}
 use Rattle.meaning.specs.State.{Script}
 use Rattle.steps.specs.declared.remaining.Mark.the-variants.{CloseBrace}
-use Rattle.steps.specs.Stream.{Stream}
-use Rattle.steps.specs.Flow.{Flow, _▸_, plain, call, write, pump, expect, expectByte, ifNext, is}
-use Rattle.steps.specs.Loop.{loop}
+use Rattle.walk.specs.Stream.{Stream}
+use Rattle.walk.specs.Flow.{Flow, _▸_, plain, call, write, pump, expect, expectByte, ifNext, is}
+use Rattle.walk.specs.Loop.{loop}
 use Rattle.steps.specs.Remaining.{Remaining, putRemaining}
 use Rattle.steps.specs.Items.{items, list, listed, suffix}
 use Rattle.patterns.specs.Pattern.{tupled, objectName, objectEnd, silent}

@@ -9,9 +9,9 @@ use Rattle.meaning.specs.declared.call.Hint.the-variants.{Infix}
 use Rattle.meaning.specs.declared.call.Call.the-variants.{Comments}
 use Rattle.meaning.specs.Plan.{nothing}
 use Rattle.meaning.specs.State.{Script}
-use Rattle.steps.specs.Stream.{Stream}
-use Rattle.steps.specs.Flow.{Flow, _▸_, plain, call, write, pump, ifNext, is}
-use Rattle.steps.specs.Loop.{loop}
+use Rattle.walk.specs.Stream.{Stream}
+use Rattle.walk.specs.Flow.{Flow, _▸_, plain, call, write, pump, ifNext, is}
+use Rattle.walk.specs.Loop.{loop}
 use Rattle.parts.specs.Spaced.{isExpr, expectExpr, between}
 use Rattle.parts.specs.Sorts.{isPrefix}
 use Rattle.parts.specs.Leads.{leadHead, leadTakes, beforeValue, noValue}

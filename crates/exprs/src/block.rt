@@ -1,32 +1,32 @@
 // Blocks and their statements: format.rs 205 to 236, 1601 to 1674.
 use crate::Lay;
+use calls::comments;
 use gaps::statements::enter;
 use gaps::statements::gap;
 use gaps::statements::is_spread;
 use gaps::statements::leave;
 use gaps::statements::semicolon;
 use kinds::bytes;
+use lent::formatter::Formatter;
+use lent::formatter::refuse;
+use lent::ring::Queue;
 use meaning::answer::Refusal;
 use meaning::call::Hint;
-use output::calls::comments;
 use parts::sorts::is_item;
 use parts::sorts::is_let;
 use paths::attribute::inner_attributes;
-use queue::formatter::Formatter;
-use queue::formatter::refuse;
-use queue::ring::Queue;
-use steps::stream::Stream;
-use steps::stream::expect;
-use steps::stream::has_next;
-use steps::stream::left_over;
-use steps::stream::pump;
-use steps::stream::records_of;
-use steps::tokens::token;
 use tree::record::RecordNo;
 use tree::table::kind_at;
+use walk::stream::Stream;
+use walk::stream::expect;
+use walk::stream::has_next;
+use walk::stream::left_over;
+use walk::stream::pump;
+use walk::stream::records_of;
+use walk::tokens::token;
 ghost use Rattle.exprs.specs.Rule.{Rule};
 ghost use Rattle.exprs.specs.Block.{stmt, stmts};
-ghost use Rattle.queue.specs.Loans.{Made, script};
+ghost use Rattle.lent.specs.Loans.{Made, script};
 ghost use Rattle.exprs.specs.Lay.{Lays, Steps, lay};
 
 impl Lay {

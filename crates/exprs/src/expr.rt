@@ -1,9 +1,12 @@
 // An expression, and its own node: format.rs 559 to 687.
 use crate::Lay;
+use calls::comments;
 use kinds::bytes;
+use lent::formatter::Formatter;
+use lent::formatter::refuse;
+use lent::ring::Queue;
 use meaning::answer::Refusal;
 use meaning::call::Hint;
-use output::calls::comments;
 use parts::labels::before_expr;
 use parts::lone::lone;
 use parts::sorts::is_lead;
@@ -11,16 +14,13 @@ use parts::sorts::is_loop;
 use parts::sorts::is_range;
 use parts::spaced::between;
 use parts::spaced::expect_expr;
-use queue::formatter::Formatter;
-use queue::formatter::refuse;
-use queue::ring::Queue;
-use steps::stream::left_over;
-use steps::stream::pump;
-use steps::stream::records_of;
 use tree::record::RecordNo;
 use tree::table::kind_at;
+use walk::stream::left_over;
+use walk::stream::pump;
+use walk::stream::records_of;
 ghost use Rattle.exprs.specs.Rule.{Rule, asked};
-ghost use Rattle.queue.specs.Loans.{Made, script};
+ghost use Rattle.lent.specs.Loans.{Made, script};
 ghost use Rattle.exprs.specs.Lay.{flow, Lays, lay};
 
 impl Lay {

@@ -1,29 +1,28 @@
 // Lists of expressions: format.rs 387 to 418, 783 to 845.
 use crate::Lay;
+use calls::comments;
 use gaps::lines::close_lines;
 use gaps::lines::end_entry;
 use gaps::lines::open_lines;
 use kinds::bytes;
-use loose::reason::is_loose;
-use loose::reason::why_loose;
+use lent::formatter::Formatter;
+use lent::ring::Queue;
+use loose::reason::goes_loose;
 use meaning::call::Hint;
-use output::calls::comments;
 use parts::spaced::next_expr;
 use patterns::pat_parts::close_tuple;
 use patterns::pat_parts::more;
-use queue::formatter::Formatter;
-use queue::ring::Queue;
 use steps::items::before_item;
 use steps::items::behind_item;
 use steps::items::close_list;
 use steps::remaining::fresh;
-use steps::stream::Stream;
-use steps::stream::left_over;
-use steps::stream::pump;
-use steps::stream::records_of;
-use steps::tokens::token;
 use tree::cursor::children_of;
 use tree::record::RecordNo;
+use walk::stream::Stream;
+use walk::stream::left_over;
+use walk::stream::pump;
+use walk::stream::records_of;
+use walk::tokens::token;
 ghost use Rattle.exprs.specs.List.{exprs, loose, tuple};
 ghost use Rattle.exprs.specs.Lay.{Parses, Steps};
 
@@ -43,9 +42,9 @@ impl Lay {
         ensures { λ _. ⌜ Parses src table fmt queue out depth (λ x lay. exprs x lay opening closing) k ⌝ }
     {
         let mut p = records_of(table, k);
-        let why = why_loose(src, table, k, children_of(table, k).at, false);
+        let loose = goes_loose(src, table, k, children_of(table, k).at, false);
         token(src, table, fmt, queue, out, &mut p, opening);
-        if is_loose(why) {
+        if loose {
             Lay::loose(src, table, fmt, queue, out, &mut p, depth);
             token(src, table, fmt, queue, out, &mut p, closing);
             left_over(table, fmt, &p);

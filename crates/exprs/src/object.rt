@@ -1,32 +1,31 @@
 // Objects: format.rs 420 to 505.
 use crate::Lay;
+use calls::ws;
 use gaps::lines::close_keys;
 use gaps::lines::end_entry;
 use gaps::lines::key_line;
 use gaps::lines::next_key;
 use gaps::lines::open_lines;
 use kinds::bytes;
-use loose::reason::is_loose;
-use loose::reason::why_loose;
-use output::calls::ws;
+use lent::formatter::Formatter;
+use lent::ring::Queue;
+use loose::reason::goes_loose;
 use patterns::pat_parts::close_object;
 use patterns::pat_parts::object_name;
-use queue::formatter::Formatter;
-use queue::ring::Queue;
 use steps::remaining::Mark;
 use steps::remaining::fresh;
 use steps::remaining::put_remaining;
 use steps::remaining::take_remaining;
-use steps::stream::Stream;
-use steps::stream::left_over;
-use steps::stream::next_is;
-use steps::stream::peek;
-use steps::stream::pump;
-use steps::stream::records_of;
-use steps::tokens::any;
-use steps::tokens::token;
 use tree::cursor::behind;
 use tree::record::RecordNo;
+use walk::stream::Stream;
+use walk::stream::left_over;
+use walk::stream::next_is;
+use walk::stream::peek;
+use walk::stream::pump;
+use walk::stream::records_of;
+use walk::tokens::any;
+use walk::tokens::token;
 ghost use Rattle.exprs.specs.List.{object, rows, pair};
 ghost use Rattle.exprs.specs.Lay.{Parses, Steps};
 
@@ -45,10 +44,10 @@ impl Lay {
         ensures { λ _. ⌜ Parses src table fmt queue out depth object k ⌝ }
     {
         let mut p = records_of(table, k);
-        let why = why_loose(src, table, k, behind(table, peek(table, &p)), true);
+        let loose = goes_loose(src, table, k, behind(table, peek(table, &p)), true);
         object_name(src, table, fmt, queue, out, &mut p);
         token(src, table, fmt, queue, out, &mut p, bytes::BRACE_OPEN);
-        if is_loose(why) {
+        if loose {
             Lay::rows(src, table, fmt, queue, out, &mut p, depth);
             left_over(table, fmt, &p);
             return;

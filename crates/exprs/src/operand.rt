@@ -1,11 +1,13 @@
 // Operators, ranges, groups, closures and jumps: format.rs 650 to 662, 774 to 781, 855 to 906, 980 to 1027, 1137 to 1179.
 use crate::Lay;
+use calls::comments;
 use gaps::statements::group_end;
 use kinds::bytes;
 use kinds::bytes::PAREN_CLOSE;
 use kinds::bytes::PAREN_OPEN;
+use lent::formatter::Formatter;
+use lent::ring::Queue;
 use meaning::call::Hint;
-use output::calls::comments;
 use parts::leads::before_value;
 use parts::leads::lead_head;
 use parts::leads::lead_takes;
@@ -13,15 +15,13 @@ use parts::leads::no_value;
 use parts::sorts::is_prefix;
 use parts::spaced::between;
 use parts::spaced::next_expr;
-use queue::formatter::Formatter;
-use queue::ring::Queue;
-use steps::stream::left_over;
-use steps::stream::next_is;
-use steps::stream::pump;
-use steps::stream::records_of;
-use steps::tokens::any;
 use tree::record::RecordNo;
 use tree::table::kind_at;
+use walk::stream::left_over;
+use walk::stream::next_is;
+use walk::stream::pump;
+use walk::stream::records_of;
+use walk::tokens::any;
 ghost use Rattle.exprs.specs.Operand.{binary, range, group, lead};
 ghost use Rattle.exprs.specs.Lay.{Parses};
 

@@ -2,7 +2,7 @@
 use Rattle.steps.proofs.Rules.{_≡_, refl, Bool, true, false, List, ℕ, arith}
 use Rattle.meaning.specs.{declared.answer.Answer.Answer, declared.answer.Answer.the-variants.Done, declared.answer.Answer.the-variants.Refused}
 use Rattle.meaning.specs.{Plan.zeroed}
-use Rattle.queue.specs.Run.{isRefused}
+use Rattle.lent.specs.Run.{isRefused}
 use Rattle.entry.specs.Ended.{endedBuffer}
 
 pub end-stopped : (a : Answer) (n : ℕ) (b b′ : List ℕ) {t : Bool} → t ≡ isRefused a → t ≡ true → b′ ≡ zeroed n b → b′ ≡ endedBuffer a n b

@@ -1,8 +1,1 @@
-mod EndLaws
-mod RuleLaws
-mod WholeLaws
-pub mod Tame
-pub mod TameSteps
-pub mod TameRules
-pub mod TameParts
-pub mod TameExprs
+pub mod EndLaws

@@ -2,17 +2,17 @@
 use entry::state::State;
 use entry::state::Step;
 use entry::state::left;
-use queue::formatter::Formatter;
-use queue::formatter::stopped;
-use queue::ring::Queue;
-use queue::room::fill;
+use lent::formatter::Formatter;
+use lent::formatter::stopped;
+use lent::ring::Queue;
+use lent::room::fill;
 ghost use mathlib.Core.Path.{_≡_};
 ghost use Rattle.meaning.specs.Plan.{zeroed};
-ghost use Rattle.queue.specs.Words.{runOf};
+ghost use Rattle.lent.specs.Words.{runOf};
 ghost use Rattle.entry.specs.Ended.{Ended};
 
 // Zero from place n to the buffer's end.
-fn zero_from(out: &mut [u8], n: usize)
+pub fn zero_from(out: &mut [u8], n: usize)
     ensures { λ _. ⌜ now (out .exit) ≡ zeroed n (now (out .entry)) ⌝ }
 {
     if n < out.len() {

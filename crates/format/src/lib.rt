@@ -1,5 +1,3 @@
-// Layout runs: a node is named, and the calls of its rule are made, or nothing is.
+// Runs: on a node or on a whole script, with their checks and their end.
 pub mod ended;
-pub mod rules;
 pub mod runs;
-pub mod whole;

@@ -3,8 +3,8 @@ use Rattle.steps.proofs.Rules.{_≡_, sym, ap, _∙_, Bool, true, false, List, 
 use Rattle.steps.proofs.Rules.{Stream, nextIn, nextIs, recordsOf, takeIn, takeAny, takeIf, Ate, eqb}
 use Rattle.tree.specs.{declared.cursor.Found.Found, declared.cursor.Found.the-variants.At, declared.cursor.Found.the-variants.None, Cursor.foundOf}
 use Rattle.tree.proofs.Laws.{found-is, found-not}
-use Rattle.steps.specs.Stream.{no, isSome}
-use Rattle.steps.proofs.StreamLaws.{some-is, some-not}
+use Rattle.walk.specs.Stream.{no, isSome}
+use Rattle.walk.proofs.StreamLaws.{some-is, some-not}
 use Rattle.gaps.specs.Arms.{lastFrom, lastOf, lastIn, isBlockArm, LastOf}
 
 -- ---- the last record, one by one

@@ -1,10 +1,10 @@
 -- Laws of statements and their blocks: the lines between two, and the semicolon. Assumes nothing.
-use Rattle.steps.proofs.Rules.{_≡_, ap, Bool, true, false, not, List, ℕ, ne-eqb, eqb, Record, Kind, Suffix, Comments, Nl, Script}
+use Rattle.steps.proofs.Rules.{_≡_, ap, Bool, true, false, not, List, ℕ, ne-eqb, eqb, Record, Suffix, Comments, Nl, Script}
 use Rattle.steps.proofs.Rules.{nothing, make, _then_, Engine, engine, Makes, rest-then, nothing-made, Remaining, Stream, Goes}
 use Rattle.kinds.specs.declared.class.Class.{Class}
 use Rattle.kinds.specs.Facts.{classOf, needsSemi}
 use Rattle.kinds.specs.Kinds.{kindOf}
-use Rattle.queue.proofs.MadeLaws as made
+use Rattle.lent.proofs.MadeLaws as made
 use Rattle.steps.specs.declared.remaining.Mark.the-variants.{SemiColon}
 use Rattle.steps.specs.Remaining.{isPresent, writeIf, Rests}
 use Rattle.gaps.specs.Statements.{linesOf, gap, beforeSemi, semicolon}
@@ -15,10 +15,10 @@ pub gap-first : {x : Script} {e : Engine} {last : ℕ} (kind : ℕ) → last ≡
 unfolding gap
 gap-first kind h = rw h nothing-made
 
-pub gap-lines : {x : Script} {e e′ : Engine} (last kind : ℕ) {a b : Kind} {c d : Class} {n : ℕ} → (last ≡ 0 → ⊥) → a ≡ kindOf last → c ≡ classOf a → b ≡ kindOf kind → d ≡ classOf b → n ≡ linesOf c d
+pub gap-lines : {x : Script} {e e′ : Engine} (last kind : ℕ) {c d : Class} {n : ℕ} → (last ≡ 0 → ⊥) → c ≡ classOf (kindOf last) → d ≡ classOf (kindOf kind) → n ≡ linesOf c d
     → Makes x (make (Nl n)) e e′ → Makes x (gap last kind) e e′
 unfolding gap
-gap-lines last kind z p f q g l m = rw (ne-eqb last 0 z, ← p, ← f, ← q, ← g, ← l) m
+gap-lines last kind z f g l m = rw (ne-eqb last 0 z, ← f, ← g, ← l) m
 
 -- ---- the semicolon
 
@@ -37,7 +37,7 @@ unfolding beforeSemi
 semi-none semi h q g = rw (h, ← q, g) nothing-made
 
 -- it is taken, then comments and the token
-pub semi-of : {x : Script} (rs : List Record) (kind : ℕ) {k : Kind} {t : Bool} {s s′ : Stream} {w w′ q b : List ℕ} {r : Remaining} {e e′ : Engine} → k ≡ kindOf kind → t ≡ needsSemi k → Rests rs SemiColon s w w′ r s′
+pub semi-of : {x : Script} (rs : List Record) (kind : ℕ) {t : Bool} {s s′ : Stream} {w w′ q b : List ℕ} {r : Remaining} {e e′ : Engine} → t ≡ needsSemi (kindOf kind) → Rests rs SemiColon s w w′ r s′
     → Makes x (beforeSemi t r) (engine w′ q b) e → Makes x (writeIf t r) e e′ → Goes x (semicolon rs kind) s (engine w q b) e′ s′
 unfolding semicolon
-semi-of rs kind f g a m n = rest-then (λ (r : Remaining). beforeSemi (needsSemi (kindOf kind)) r then writeIf (needsSemi (kindOf kind)) r) a (rw (← f, ← g) (made._▹_ m n))
+semi-of rs kind g a m n = rest-then (λ (r : Remaining). beforeSemi (needsSemi (kindOf kind)) r then writeIf (needsSemi (kindOf kind)) r) a (rw (← g) (made._▹_ m n))

@@ -13,8 +13,8 @@ use Rattle.meaning.specs.declared.call.Hint.the-variants.{Line, Infix}
 use Rattle.meaning.specs.declared.call.Call.the-variants.{Comments, Indent, Nl, Ws}
 use Rattle.meaning.specs.Plan.{Plan, nothing, make, _then_}
 use Rattle.steps.specs.declared.remaining.Mark.the-variants.{Comma}
-use Rattle.steps.specs.Stream.{Stream, recordsOf, no}
-use Rattle.steps.specs.Flow.{Flow, flow, _▸_, plain, call, write, pump, expect, is}
+use Rattle.walk.specs.Stream.{Stream, recordsOf, no}
+use Rattle.walk.specs.Flow.{Flow, flow, _▸_, plain, call, write, pump, expect, is}
 use Rattle.steps.specs.Remaining.{remaining, writeOnlyIf}
 
 -- ---- whether an arm's body is a block: the body is the arm's last record, and an expression's own node the last of its

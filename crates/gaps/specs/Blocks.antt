@@ -9,8 +9,8 @@ use Rattle.kinds.specs.Facts.{byteOf}
 use Rattle.meaning.specs.declared.call.Literal.the-variants.{OpenBrace, CloseBrace}
 use Rattle.meaning.specs.declared.call.Call.the-variants.{Ws, Nl, Lit}
 use Rattle.meaning.specs.Plan.{Plan, nothing, make, _then_}
-use Rattle.steps.specs.Stream.{Stream, nextIs}
-use Rattle.steps.specs.Flow.{is}
+use Rattle.walk.specs.Stream.{Stream, nextIs}
+use Rattle.walk.specs.Flow.{is}
 
 -- a module, in a file of its own or not
 unfoldable pub isMod : ℕ → Bool

@@ -5,8 +5,8 @@ use Rattle.meaning.specs.declared.call.Hint.the-variants.{Line}
 use Rattle.meaning.specs.declared.call.Call.the-variants.{Comments, Indent, Nl, Ws}
 use Rattle.meaning.specs.Plan.{Plan, make, _then_}
 use Rattle.steps.specs.declared.remaining.Mark.the-variants.{Comma, CloseBrace}
-use Rattle.steps.specs.Stream.{Stream}
-use Rattle.steps.specs.Flow.{Flow, _▸_, plain, call, write, pump}
+use Rattle.walk.specs.Stream.{Stream}
+use Rattle.walk.specs.Flow.{Flow, _▸_, plain, call, write, pump}
 use Rattle.steps.specs.Remaining.{Remaining, fmt, putRemaining}
 
 -- in front of the first: a new line, one level in

@@ -12,8 +12,8 @@ use Rattle.meaning.specs.declared.call.Hint.the-variants.{Line, Prefix, Suffix}
 use Rattle.meaning.specs.declared.call.Call.the-variants.{Comments, Indent, Nl}
 use Rattle.meaning.specs.Plan.{Plan, nothing, make, _then_}
 use Rattle.steps.specs.declared.remaining.Mark.the-variants.{SemiColon}
-use Rattle.steps.specs.Stream.{Stream, nextIs}
-use Rattle.steps.specs.Flow.{Flow, flow, write, ignored, expectByte, expect}
+use Rattle.walk.specs.Stream.{Stream, nextIs}
+use Rattle.walk.specs.Flow.{Flow, flow, write, ignored, expectByte, expect}
 use Rattle.steps.specs.Remaining.{Remaining, isPresent, writeIf, remaining}
 
 -- ---- lines between statements

@@ -1,29 +1,29 @@
 // The arms of `select` and `match`: format.rs 1029 to 1135. An arm's body is its last record, and an expression's own node the last of its.
+use calls::comments;
+use calls::indent;
+use calls::nl;
+use calls::ws;
 use kinds::bytes;
+use lent::formatter::Formatter;
+use lent::ring::Queue;
 use meaning::call::Hint;
-use output::calls::comments;
-use output::calls::indent;
-use output::calls::nl;
-use output::calls::ws;
-use queue::formatter::Formatter;
-use queue::ring::Queue;
 use steps::remaining::Mark;
 use steps::remaining::take_remaining;
 use steps::remaining::write_only_if;
-use steps::stream::Stream;
-use steps::stream::has_next;
-use steps::stream::is_some;
-use steps::stream::nothing;
-use steps::stream::records_of;
-use steps::stream::take;
-use steps::tokens::any;
-use steps::tokens::token;
 use tree::record::RecordNo;
 use tree::table::kind_at;
+use walk::stream::Stream;
+use walk::stream::has_next;
+use walk::stream::is_some;
+use walk::stream::nothing;
+use walk::stream::records_of;
+use walk::stream::take;
+use walk::tokens::any;
+use walk::tokens::token;
 ghost use mathlib.Core.Path.{_≡_};
-ghost use Rattle.queue.specs.Loans.{Made};
-ghost use Rattle.steps.specs.Stream.{tree};
-ghost use Rattle.steps.specs.Flow.{Walked};
+ghost use Rattle.lent.specs.Loans.{Made};
+ghost use Rattle.walk.specs.Stream.{tree};
+ghost use Rattle.walk.specs.Flow.{Walked};
 ghost use Rattle.gaps.specs.Arms.{LastOf, isBlockArm, armComma, openSelect, openMatch, openArm, closeArms, closeSelect};
 
 // The last record of node k.

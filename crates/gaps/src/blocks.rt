@@ -1,16 +1,16 @@
 // The block behind an item's head: format.rs 1441 to 1462, 1544 to 1573.
+use calls::lit;
+use calls::nl;
+use calls::ws;
 use kinds::bytes;
+use lent::formatter::Formatter;
+use lent::ring::Queue;
 use meaning::call::Literal;
-use output::calls::lit;
-use output::calls::nl;
-use output::calls::ws;
-use queue::formatter::Formatter;
-use queue::ring::Queue;
-use steps::stream::Stream;
-use steps::stream::next_is;
+use walk::stream::Stream;
+use walk::stream::next_is;
 ghost use mathlib.Core.Path.{_≡_};
-ghost use Rattle.queue.specs.Loans.{Made};
-ghost use Rattle.steps.specs.Stream.{tree, streamIn};
+ghost use Rattle.lent.specs.Loans.{Made};
+ghost use Rattle.walk.specs.Stream.{tree, streamIn};
 ghost use Rattle.gaps.specs.Blocks.{isMod, asksBlock, beforeBlock, noBlock};
 
 // A module, in a file of its own or not.

@@ -1,20 +1,20 @@
 // Entries on lines of their own, and the keys of objects: format.rs 450 to 505, 808 to 823.
+use calls::comments;
+use calls::indent;
+use calls::nl;
+use calls::ws;
+use lent::formatter::Formatter;
+use lent::ring::Queue;
 use meaning::call::Hint;
-use output::calls::comments;
-use output::calls::indent;
-use output::calls::nl;
-use output::calls::ws;
-use queue::formatter::Formatter;
-use queue::ring::Queue;
 use steps::remaining::Mark;
 use steps::remaining::Remaining;
 use steps::remaining::put;
 use steps::remaining::put_remaining;
-use steps::stream::Stream;
-use steps::tokens::any;
-ghost use Rattle.queue.specs.Loans.{Made};
-ghost use Rattle.steps.specs.Stream.{tree};
-ghost use Rattle.steps.specs.Flow.{Walked};
+use walk::stream::Stream;
+use walk::tokens::any;
+ghost use Rattle.lent.specs.Loans.{Made};
+ghost use Rattle.walk.specs.Stream.{tree};
+ghost use Rattle.walk.specs.Flow.{Walked};
 ghost use Rattle.steps.specs.Remaining.{remainingOf};
 ghost use Rattle.gaps.specs.Lines.{openLines, endEntry, closeLines, keyLine, closeKeys, nextKey};
 

@@ -1,29 +1,28 @@
 // What stands around statements and blocks: format.rs 867 to 904, 1609 to 1674.
+use calls::comments;
+use calls::ignore;
+use calls::indent;
+use calls::nl;
 use kinds::Class;
 use kinds::bytes;
-use kinds::class_of;
-use kinds::kind_of;
-use kinds::needs_semi;
+use kinds::class_at;
+use kinds::semi_at;
+use lent::formatter::Formatter;
+use lent::ring::Queue;
 use meaning::call::Hint;
-use output::calls::comments;
-use output::calls::ignore;
-use output::calls::indent;
-use output::calls::nl;
-use queue::formatter::Formatter;
-use queue::ring::Queue;
 use steps::remaining::Mark;
 use steps::remaining::Remaining;
 use steps::remaining::is_present;
 use steps::remaining::take_remaining;
 use steps::remaining::write_if;
-use steps::stream::Stream;
-use steps::stream::expect;
-use steps::stream::has_next;
-use steps::tokens::token;
+use walk::stream::Stream;
+use walk::stream::expect;
+use walk::stream::has_next;
+use walk::tokens::token;
 ghost use mathlib.Core.Path.{_≡_};
-ghost use Rattle.queue.specs.Loans.{Made};
-ghost use Rattle.steps.specs.Stream.{tree, streamIn};
-ghost use Rattle.steps.specs.Flow.{Walked};
+ghost use Rattle.lent.specs.Loans.{Made};
+ghost use Rattle.walk.specs.Stream.{tree, streamIn};
+ghost use Rattle.walk.specs.Flow.{Walked};
 ghost use Rattle.steps.specs.Remaining.{remainingOf};
 ghost use Rattle.gaps.specs.Statements.{isConst, isLocal, linesOf, gap, beforeSemi, semicolon, isSpread, enter, leave, groupEnd};
 
@@ -83,7 +82,7 @@ pub fn gap(
             fmt,
             queue,
             out,
-            lines(class_of(kind_of(last)), class_of(kind_of(kind))),
+            lines(class_at(last), class_at(kind)),
         );
     }
 }
@@ -121,7 +120,7 @@ pub fn semicolon(
 )
     ensures { λ _. ⌜ Walked src table fmt queue out p (semicolon (tree table) kind) ⌝ }
 {
-    let needed = needs_semi(kind_of(kind));
+    let needed = semi_at(kind);
     let semi = take_remaining(table, fmt, p, Mark::SemiColon);
     before_semi(src, table, fmt, queue, out, semi, needed);
     write_if(src, table, fmt, queue, out, semi, Mark::SemiColon, needed);

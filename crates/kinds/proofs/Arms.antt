@@ -32,15 +32,15 @@ at-place ([] ∷ rest) bare d make (inl x) = refl
 at-place ([] ∷ rest) bare d make (inr c) = at-place rest bare d (λ c. make (inr c)) c
 at-place ((f ∷ fs) ∷ rest) bare d make c = absurd bare
 
-abbrev first : {A : Type 0} → A → List A → A
+abbrev pub first : {A : Type 0} → A → List A → A
 first a [] = a
 first a (x ∷ xs) = x
 
-abbrev tail : {A : Type 0} → List A → List A
+abbrev pub tail : {A : Type 0} → List A → List A
 tail [] = []
 tail (x ∷ xs) = xs
 
-abbrev keep : Bool → ℕ → List ℕ → List ℕ
+abbrev pub keep : Bool → ℕ → List ℕ → List ℕ
 keep true n ns = n ∷ ns
 keep false n ns = ns
 

@@ -1,7 +1,9 @@
 // What the rules ask of a kind.
 ghost use mathlib.Core.Path.{_≡_};
+ghost use Rattle.kinds.specs.Kinds.{kindOf};
 ghost use Rattle.kinds.specs.Facts.{classOf, needsSemi, hasRule, isExpr};
 use crate::Kind;
+use crate::bytes;
 
 // The class of a statement, by which `block_content` sets blank lines. None: no kind of statement. (A composite of such a kind still runs as
 // one, of class Other.)
@@ -30,6 +32,29 @@ pub fn needs_semi(kind: Kind) -> bool
 {
     match kind {
         Kind::ItemSemi | Kind::ConstSemi | Kind::LocalSemi | Kind::ExprSemi => true,
+        _ => false,
+    }
+}
+
+// The class of a statement by its byte, without the way over its kind: a block asks at each of its statements.
+pub fn class_at(byte: u8) -> Class
+    ensures { λ r. ⌜ r ≡ classOf (kindOf byte) ⌝ }
+{
+    match byte {
+        bytes::ITEM | bytes::ITEM_SEMI => Class::Item,
+        bytes::CONST_STMT | bytes::CONST_SEMI => Class::Const,
+        bytes::LOCAL | bytes::LOCAL_SEMI => Class::Local,
+        bytes::EXPR | bytes::EXPR_SEMI => Class::Other,
+        _ => Class::None,
+    }
+}
+
+// Whether a semicolon is needed, by the statement's byte.
+pub fn semi_at(byte: u8) -> bool
+    ensures { λ r. ⌜ r ≡ needsSemi (kindOf byte) ⌝ }
+{
+    match byte {
+        bytes::ITEM_SEMI | bytes::CONST_SEMI | bytes::LOCAL_SEMI | bytes::EXPR_SEMI => true,
         _ => false,
     }
 }

@@ -6,10 +6,12 @@ pub mod bytes;
 mod class;
 
 pub use class::Class;
+pub use class::class_at;
 pub use class::class_of;
 pub use class::has_rule;
 pub use class::is_expr;
 pub use class::needs_semi;
+pub use class::semi_at;
 
 // A case has the Rust's name, a word or a mark that of what `K!` stands for. A statement's is the table's, as several bytes are one kind of
 // the Rust's there; so are LitOther and Op, each of which is several of its kinds.

@@ -1,2 +1,3 @@
 mod ReasonLaws
 mod ChainLaws
+mod WidthLaws

@@ -9,6 +9,11 @@ ghost use Rattle.width.specs.Count.{isAtLeast};
 pub fn is_at_least(src: &[u8], span: Span, n: u32) -> bool
     ensures { λ r. ⌜ r ≡ isAtLeast (now (src .entry)) span n ⌝ }
 {
+    let t = part(src, span);
+    // so few bytes have no more characters
+    if t.len() <= n as usize {
+        return false;
+    }
     let limit = n as u64;
-    limit < count(part(src, span), n)
+    limit < count(t, n)
 }

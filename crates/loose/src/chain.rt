@@ -9,7 +9,7 @@ use tree::table::node;
 ghost use mathlib.Core.Path.{_≡_};
 ghost use Rattle.tree.specs.Table.{treeOf};
 ghost use Rattle.tree.specs.Cursor.{foundOf};
-ghost use Rattle.queue.specs.Loans.{script};
+ghost use Rattle.lent.specs.Loans.{script};
 ghost use Rattle.loose.specs.Chain.{isDot, behindHead, tailIn, dotBehind, headOf, firstIn, breaksAt, chainFrom};
 
 // The first call behind the head, and how many records stand there as far as it, it among them; or none.

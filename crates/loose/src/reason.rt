@@ -9,7 +9,7 @@ use tree::table::node;
 use width::place::place_in;
 ghost use mathlib.Core.Path.{_≡_};
 ghost use Rattle.tree.specs.Table.{treeOf};
-ghost use Rattle.queue.specs.Loans.{script};
+ghost use Rattle.lent.specs.Loans.{script};
 ghost use Rattle.loose.specs.Reason.{isEntry, crowd, childrenFrom, reason, isLoose};
 
 // The node's span is too wide, by the character at this place; a line comment stands among its records; a sixth entry does; or none of these.
@@ -65,6 +65,16 @@ pub fn why_loose(src: &[u8], table: &[u32], k: RecordNo, from: RecordNo, keys: b
         return Reason::Wide(place_in(src, span, 80));
     }
     crowd(table, k, from, keys)
+}
+
+// Whether there is a reason. The place of the 81st character is not looked for.
+pub fn goes_loose(src: &[u8], table: &[u32], k: RecordNo, from: RecordNo, keys: bool) -> bool
+    ensures { λ r. ⌜ r ≡ isLoose (reason (script src table) keys k (from .0)) ⌝ }
+{
+    if is_at_least(src, node(table, k).span, 80) {
+        return true;
+    }
+    is_loose(crowd(table, k, from, keys))
 }
 
 pub fn is_loose(why: Reason) -> bool

@@ -21,7 +21,7 @@ use Rattle.meaning.specs.declared.call.Call.{Call}
 use Rattle.meaning.specs.declared.call.Call.the-variants.{WriteOwned, WriteRaw, Ignore, Lit, Comments, Indent, Nl, Ws, FlushWhitespace, FlushPrefixComments, Finish}
 use Rattle.meaning.specs.State.{Script, Note, Comment, noteOf, State}
 use Rattle.meaning.specs.Pieces.{unit, space, breaks, Piece, gap, text, comment, bytesOf, flat}
-use Rattle.meaning.specs.Collect.{Entry, entryAt, entryOf, nodeText, behind}
+use Rattle.meaning.specs.Collect.{Met, metAt, metOf, nodeText, behind}
 use Rattle.meaning.specs.Flush.{breaking, flushGap}
 use Rattle.meaning.specs.Release.{commentText, lineGap, linePieces, spacePieces, behindGap}
 use Rattle.meaning.specs.Calls.{litText}
@@ -72,18 +72,18 @@ pub inside-back : {src : List ℕ} (xs : List Note) {ys : List Note} → Inside 
 inside-back [] r = r
 inside-back (x ∷ xs) (a-note h q) = inside-back xs q
 
-entry-inside : (src : List ℕ) (below kind : ℕ) (span : Span) (n : ℕ) (es : List Entry) → inSource src span ≡ true → Inside src (notes es)
-    → Inside src (notes (entryAt below kind span n ∷ es))
+entry-inside : (src : List ℕ) (below kind : ℕ) (span : Span) (n : ℕ) (es : List Met) → inSource src span ≡ true → Inside src (notes es)
+    → Inside src (notes (metAt below kind span n ∷ es))
 entry-inside src (suc below) kind span n es h r = r
 entry-inside src zero zero span n es h r = r
 entry-inside src zero (suc zero) span n es h r = a-note h r
 entry-inside src zero (suc (suc zero)) span n es h r = a-note h r
 entry-inside src zero (suc (suc (suc kind))) span n es h r = no-note
 
-notes-inside : (src : List ℕ) (rs : List Record) → SpansInside src rs → Inside src (notes (map (entryOf src) rs))
-unfolding entryOf
+notes-inside : (src : List ℕ) (rs : List Record) → SpansInside src rs → Inside src (notes (map (metOf src) rs))
+unfolding metOf
 notes-inside src [] h = no-note
-notes-inside src (r ∷ rs) h = entry-inside src (r .below) (r .kind) (r .span) _ (map (entryOf src) rs) (h .0) (notes-inside src rs (h .1))
+notes-inside src (r ∷ rs) h = entry-inside src (r .below) (r .kind) (r .span) _ (map (metOf src) rs) (h .0) (notes-inside src rs (h .1))
 
 spans-drop : (src : List ℕ) (i : ℕ) (rs : List Record) → SpansInside src rs → SpansInside src (drop i rs)
 spans-drop src zero rs h = h

@@ -14,12 +14,12 @@ use Rattle.meaning.specs.declared.answer.Refusal.the-variants.{NoRoom, Q
 use Rattle.meaning.specs.State.{Script, Note, Comment, queued, State}
 use Rattle.meaning.specs.Pieces.{Piece}
 use Rattle.meaning.specs.Outcome.{Outcome, done, refused, refuseIf}
-use Rattle.meaning.specs.Collect.{Entry, inner, remark, blank, stop, entriesFrom, Collected, full, got, before, collect, onGot, gather, behind}
+use Rattle.meaning.specs.Collect.{Met, inner, remark, blank, stop, metFrom, Collected, full, got, before, collect, onGot, gather, behind}
 use Rattle.meaning.specs.Calls.{Shift, deeper, outer, signed, shifted, act, Named, no-node, a-node, namedBy, ifThere, step}
 use Rattle.meaning.specs.Demand3.{notes}
 
 -- from record i on, with room for so many: record j is a comment, and those before it take up the room
-pub record FullAt (i room : ℕ) (es : List Entry) (j : ℕ) : Type 0 where
+pub record FullAt (i room : ℕ) (es : List Met) (j : ℕ) : Type 0 where
   pub passed : ℕ
   pub which : Note
   pub place : j ≡ i + passed
@@ -27,7 +27,7 @@ pub record FullAt (i room : ℕ) (es : List Entry) (j : ℕ) : Type 0 where
   pub room-taken : length (notes (take passed es)) ≡ room
 
 -- one entry more in front, which takes so much of the room
-behind-one : {i j : ℕ} (room more : ℕ) {es : List Entry} (e : Entry) → ((ds : List Entry) → length (notes (e ∷ ds)) ≡ more + length (notes ds)) → FullAt (suc i) room es j → FullAt i (more + room) (e ∷ es) j
+behind-one : {i j : ℕ} (room more : ℕ) {es : List Met} (e : Met) → ((ds : List Met) → length (notes (e ∷ ds)) ≡ more + length (notes ds)) → FullAt (suc i) room es j → FullAt i (more + room) (e ∷ es) j
 behind-one {i} room more {es} e h f = record {
   passed = suc (f .passed);
   which = f .which;
@@ -40,7 +40,7 @@ of-before : (c : Comment) (g : Collected) {j : ℕ} → before c g ≡ full j �
 of-before c (full i) e = e
 of-before c (got lines cs) e = let z : _≡_ {A = ℕ} 0 1 = cc in absurd (omega arith)
 
-pub full-at : (i room lines : ℕ) (es : List Entry) (j : ℕ) → collect i room lines es ≡ full j → FullAt i room es j
+pub full-at : (i room lines : ℕ) (es : List Met) (j : ℕ) → collect i room lines es ≡ full j → FullAt i room es j
 unfolding collect
 full-at i room lines [] j e = let z : _≡_ {A = ℕ} 0 1 = cc in absurd (omega arith)
 full-at i room lines (inner ∷ es) j e = rw zero-add at (behind-one room 0 inner (λ ds. sym (zero-add _)) (full-at (suc i) room lines es j e))
@@ -53,9 +53,9 @@ full-at i room lines (blank n ∷ es) j e = rw zero-add at (behind-one room 0 (b
 full-at i room lines (stop ∷ es) j e = let z : _≡_ {A = ℕ} 0 1 = cc in absurd (omega arith)
 
 -- with a queue of n that wait
-pub the-257th : (x : Script) (i n lines j : ℕ) → n ≤ 256 → collect i (256 - n) lines (entriesFrom x i) ≡ full j
-    → (f : FullAt i (256 - n) (entriesFrom x i) j) × (n + length (notes (take (f .passed) (entriesFrom x i))) ≡ 256)
-the-257th x i n lines j h e = let f = full-at i (256 - n) lines (entriesFrom x i) j e in (f, omega (arith, f .room-taken))
+pub the-257th : (x : Script) (i n lines j : ℕ) → n ≤ 256 → collect i (256 - n) lines (metFrom x i) ≡ full j
+    → (f : FullAt i (256 - n) (metFrom x i) j) × (n + length (notes (take (f .passed) (metFrom x i))) ≡ 256)
+the-257th x i n lines j h e = let f = full-at i (256 - n) lines (metFrom x i) j e in (f, omega (arith, f .room-taken))
 
 -- ---- the same over a call
 
@@ -78,8 +78,8 @@ pub record Is257th (x : Script) (n i : ℕ) (j : RecordNo) : Type 0 where
   pub passed : ℕ
   pub which : Note
   pub place : j .0 ≡ i + passed
-  pub here : getD (entriesFrom x i) passed stop ≡ remark which
-  pub waiting : n + length (notes (take passed (entriesFrom x i))) ≡ 256
+  pub here : getD (metFrom x i) passed stop ≡ remark which
+  pub waiting : n + length (notes (take passed (metFrom x i))) ≡ 256
 
 -- P holds of the record wherever the outcome is refusal 5
 abbrev OnFull : (RecordNo → Type 0) → Outcome → Type 0
@@ -122,7 +122,7 @@ module _ (x : Script) (n : ℕ) (fits : n ≤ 256) where
       rw q at (h k refl)
   full-got i next (got lines cs) h rest j e = rest lines cs j e
 
-  of-collect : (i lines j : ℕ) → collect i (256 - n) lines (entriesFrom x i) ≡ full j → Is257th x n i (record { 0 = j })
+  of-collect : (i lines j : ℕ) → collect i (256 - n) lines (metFrom x i) ≡ full j → Is257th x n i (record { 0 = j })
   of-collect i lines j e =
       let f = the-257th x i n lines j fits e in
       record { passed = f .0 .passed; which = f .0 .which; place = f .0 .place; here = f .0 .here; waiting = f .1 }
@@ -130,7 +130,7 @@ module _ (x : Script) (n : ℕ) (fits : n ≤ 256) where
   gathered : (i : ℕ) (s : State) → length (s .queue) ≡ n → (next : State → Outcome) → ((s′ : State) → OnFull (Is257th x n i) (next s′))
       → OnFull (Is257th x n i) (gather x i s next)
   unfolding gather
-  gathered i s q next h = full-got i _ (collect i (256 - length (s .queue)) (s .lines) (entriesFrom x i)) (λ j e. of-collect i (s .lines) j (rw q at e)) (λ lines cs. h _)
+  gathered i s q next h = full-got i _ (collect i (256 - length (s .queue)) (s .lines) (metFrom x i)) (λ j e. of-collect i (s .lines) j (rw q at e)) (λ lines cs. h _)
 
   full-act : (cap : ℕ) (s : State) (c : Call) → length (s .queue) ≡ n → OnFull (Is257th x n (collectsFrom x c)) (act x cap s c)
   unfolding act collectsFrom

@@ -8,7 +8,7 @@ use Rattle.meaning.specs.declared.answer.Refusal.{Refusal}
 use Rattle.meaning.specs.State.{Script, Note, Comment, noteOf, queued, State}
 use Rattle.meaning.specs.Pieces.{Piece, gap, text, comment, bytesOf, flat}
 use Rattle.meaning.specs.Outcome.{Outcome, done, refused, refuseIf}
-use Rattle.meaning.specs.Collect.{Entry, inner, remark, blank, stop, entriesFrom, Collected, full, got, before, collect, onGot, collected, gather}
+use Rattle.meaning.specs.Collect.{Met, inner, remark, blank, stop, metFrom, Collected, full, got, before, collect, onGot, collected, gather}
 use Rattle.meaning.specs.Release.{takeUntil, dropUntil, stopLine, linePieces, spacePieces}
 use Rattle.meaning.specs.Demand3.{notes, notesFrom}
 
@@ -128,7 +128,7 @@ on-before c (is-got h) = is-got (record { same = ap (noteOf c ∷_) (h .same); f
 none-are : (room : ℕ) → Are room [] []
 none-are room = record { same = refl; few = zero-le }
 
-collect-notes : (i room lines : ℕ) (es : List Entry) → OnGot (Are room (notes es)) (collect i room lines es)
+collect-notes : (i room lines : ℕ) (es : List Met) → OnGot (Are room (notes es)) (collect i room lines es)
 unfolding collect
 collect-notes i room lines [] = is-got (none-are room)
 collect-notes i room lines (inner ∷ es) = collect-notes (suc i) room lines es
@@ -147,4 +147,4 @@ pub on-gather : {P : State → List Piece → Type 0} (x : Script) (i : ℕ) (s 
     → ((lines : ℕ) (cs : List Comment) → Are (256 - length (s .queue)) (notesFrom x i) cs → OnDone P (next (collected s lines cs)))
     → OnDone P (gather x i s next)
 unfolding gather
-on-gather x i s next f = on-got _ (collect-notes i (256 - length (s .queue)) (s .lines) (entriesFrom x i)) f
+on-gather x i s next f = on-got _ (collect-notes i (256 - length (s .queue)) (s .lines) (metFrom x i)) f

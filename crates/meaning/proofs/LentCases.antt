@@ -8,7 +8,7 @@ use Rattle.tree.specs.Table.{nodeOf}
 use Rattle.tree.specs.Cursor as cursor
 use Rattle.meaning.specs.Pieces.{breaks}
 use Rattle.meaning.specs.Outcome.{refuseIf}
-use Rattle.meaning.specs.Collect.{entryOf, collect, gather}
+use Rattle.meaning.specs.Collect.{metOf, collect, gather}
 use Rattle.meaning.specs.Release.{linePieces, spacePieces}
 use Rattle.meaning.specs.Calls.{signed, act, step}
 use Rattle.meaning.specs.CallRecord.{decode}
@@ -18,5 +18,5 @@ use Rattle.meaning.specs.Plan.{exec, zeroed, ready, run}
 use Rattle.meaning.specs.LentCases as lent
 
 pub all-pass : T (lent.allHold lent.table)
-unfolding four nodeOf cursor.behind table allIn lenBy charLen starts inSource trim newlines breaks refuseIf entryOf collect gather linePieces spacePieces signed act step decode lentState serveRecord callRecord exec zeroed ready run lent.holdsTrue
+unfolding four nodeOf cursor.behind table allIn lenBy charLen starts inSource trim newlines breaks refuseIf metOf collect gather linePieces spacePieces signed act step decode lentState serveRecord callRecord exec zeroed ready run lent.holdsTrue
 all-pass = tt

@@ -33,8 +33,8 @@ abbrev pub hints : List Hint
 hints = Line ∷ Prefix ∷ Suffix ∷ Infix ∷ []
 
 -- kinds 01 to 0B
-abbrev pub bodies : List Body
-bodies =
+abbrev pub bodyForms : List Body
+bodyForms =
     a-number WriteOwned
     ∷ a-number WriteRaw
     ∷ a-number Ignore
@@ -71,7 +71,7 @@ readAs (some body) bs = readBody body bs
 
 abbrev pub ofKind : ℕ → Option Body
 ofKind zero = none
-ofKind (suc k) = at bodies k
+ofKind (suc k) = at bodyForms k
 
 -- none: unknown, cut, with bytes behind it, or with a body value that is not listed
 unfoldable pub decode : List ℕ → Option Call

@@ -16,29 +16,29 @@ use Rattle.meaning.specs.Outcome.{Outcome, refused}
 
 -- ---- what a record is to the collector
 
-pub data Entry : Type 0 where
+pub data Met : Type 0 where
   -- a composite that has children: passed over
-  inner : Entry
-  remark : Note → Entry
+  inner : Met
+  remark : Note → Met
   -- white space with so many newlines
-  blank : ℕ → Entry
+  blank : ℕ → Met
   -- any other record without children
-  stop : Entry
+  stop : Met
 
 -- by the number of records below and the kind; n is the number of newlines in the span
-abbrev pub entryAt : ℕ → ℕ → Span → ℕ → Entry
-entryAt (suc below) kind span n = inner
-entryAt zero zero span n = blank n
-entryAt zero (suc zero) span n = remark (record { span = span; line = true })
-entryAt zero (suc (suc zero)) span n = remark (record { span = span; line = false })
-entryAt zero (suc (suc (suc kind))) span n = stop
+abbrev pub metAt : ℕ → ℕ → Span → ℕ → Met
+metAt (suc below) kind span n = inner
+metAt zero zero span n = blank n
+metAt zero (suc zero) span n = remark (record { span = span; line = true })
+metAt zero (suc (suc zero)) span n = remark (record { span = span; line = false })
+metAt zero (suc (suc (suc kind))) span n = stop
 
-unfoldable pub entryOf : List ℕ → Record → Entry
-entryOf src r = entryAt (r .below) (r .kind) (r .span) (newlines (textOf src (r .span)))
+unfoldable pub metOf : List ℕ → Record → Met
+metOf src r = metAt (r .below) (r .kind) (r .span) (newlines (textOf src (r .span)))
 
 -- the records from number i on
-abbrev pub entriesFrom : Script → ℕ → List Entry
-entriesFrom x i = map (entryOf (x .source)) (drop i (x .tree))
+abbrev pub metFrom : Script → ℕ → List Met
+metFrom x i = map (metOf (x .source)) (drop i (x .tree))
 
 -- ---- the walk over them
 
@@ -58,7 +58,7 @@ orElse zero n = n
 orElse (suc lines) n = suc lines
 
 -- from record i on, with room for so many comments
-unfoldable pub collect : ℕ → ℕ → ℕ → List Entry → Collected
+unfoldable pub collect : ℕ → ℕ → ℕ → List Met → Collected
 collect i room lines [] = got lines []
 collect i room lines (inner ∷ es) = collect (suc i) room lines es
 collect i zero lines (remark n ∷ es) = full i
@@ -75,7 +75,7 @@ collected s lines cs = withLines (withQueue s (s .queue ++ cs)) lines
 
 -- collect from record i on, into a queue of 256, then go on
 unfoldable pub gather : Script → ℕ → State → (State → Outcome) → Outcome
-gather x i s next = onGot (collect i (256 - length (s .queue)) (s .lines) (entriesFrom x i)) (λ lines cs. next (collected s lines cs))
+gather x i s next = onGot (collect i (256 - length (s .queue)) (s .lines) (metFrom x i)) (λ lines cs. next (collected s lines cs))
 
 -- ---- nodes
 

@@ -12,7 +12,7 @@ use Rattle.tree.specs.declared.record.Record.{Record}
 use Rattle.meaning.specs.declared.call.Call.{Call}
 use Rattle.meaning.specs.declared.call.Call.the-variants.{WriteOwned, WriteRaw, Ignore, Lit, Comments, Indent, Nl, Ws, FlushWhitespace, FlushPrefixComments, Finish}
 use Rattle.meaning.specs.State.{Script, Note, noteOf}
-use Rattle.meaning.specs.Collect.{Entry, inner, remark, blank, stop, entriesFrom, nodeText, behind}
+use Rattle.meaning.specs.Collect.{Met, inner, remark, blank, stop, metFrom, nodeText, behind}
 use Rattle.meaning.specs.Calls.{litText}
 use Rattle.meaning.specs.World.{World, output}
 
@@ -30,7 +30,7 @@ pub record Opens (x : Script) : Type 0 where
 -- ---- what calls ask for, by the script alone
 
 -- the comments among the records, up to the first that stops
-abbrev pub notes : List Entry → List Note
+abbrev pub notes : List Met → List Note
 notes [] = []
 notes (inner ∷ es) = notes es
 notes (remark n ∷ es) = n ∷ notes es
@@ -38,7 +38,7 @@ notes (blank n ∷ es) = notes es
 notes (stop ∷ es) = []
 
 abbrev pub notesFrom : Script → ℕ → List Note
-notesFrom x i = notes (entriesFrom x i)
+notesFrom x i = notes (metFrom x i)
 
 -- the comments that a call collects
 unfoldable pub collects : Script → Call → List Note

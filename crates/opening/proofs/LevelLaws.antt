@@ -14,7 +14,7 @@ use Rattle.text.specs.Chars.{inSource}
 use Rattle.tree.specs.declared.record.Record.{Record}
 use Rattle.tree.specs.Records.{startOf, endOf}
 use Rattle.opening.specs.Check.{Finding, fine, bad, deep, _then_, keeps, along, level}
-use Rattle.unicode.proofs.Bools.{and-l, and-r}
+use Rattle.white.proofs.Bools.{and-l, and-r}
 use Rattle.tree.proofs.RecordLaws.{drop-take}
 
 -- ---- a record that keeps the rules

@@ -15,7 +15,7 @@ use Rattle.opening.specs.Good.{GoodRecord, GoodLevel, none, more}
 use Rattle.tree.specs.Table.{nodeOf}
 use Rattle.tree.specs.Cursor.{behind, topOf, takenAs}
 use Rattle.opening.specs.Nodes.{LevelAt, NodeAt, StepAt}
-use Rattle.unicode.proofs.Bools.{le-or-lt}
+use Rattle.white.proofs.Bools.{le-or-lt}
 use Rattle.tree.proofs.RecordLaws.{drop-take}
 
 -- ---- wider bounds

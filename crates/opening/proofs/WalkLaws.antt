@@ -21,7 +21,7 @@ use Rattle.tree.specs.Records.{four, bodyOf, cutRecord, recordOf, recordAt, rec
 use Rattle.opening.specs.Check.{Finding, fine, bad, deep, _then_, keeps, along, level, verdictAs, checked}
 use Rattle.opening.specs.Walk.{headOf, nextOf, insideOf, behindOf, Holds, recordsOf, findingOf, Walk}
 use Rattle.tree.proofs.RecordLaws.{wholeOf, records-in, split, fits}
-use Rattle.unicode.proofs.Bools.{le-or-lt}
+use Rattle.white.proofs.Bools.{le-or-lt}
 use Rattle.opening.proofs.LevelLaws.{Kept, kept-of, under, level-none, turn, under-is, under-zero, level-few}
 
 -- what a level finds of a part

@@ -1,5 +1,5 @@
 // The outline: a line for each record.
-use crate::lent::passed;
+use crate::lending::passed;
 use text::lines::count_newlines;
 use text::span::part;
 use tree::cursor::Cursor;

@@ -4,8 +4,8 @@
 //
 // For each record its kind, its line and the beginning of its text, set in by its depth; then what was refused of the calls, and the text that
 // they laid out. CALLS has call records, each behind a byte that says how long it is.
-mod calls;
-mod lent;
+mod call_list;
+mod lending;
 mod lines;
 
 use meaning::answer::number;
@@ -40,7 +40,7 @@ fn show(source: &[u8], tree: &[u8], file: &[u8]) {
     let opened = entry::engine::open(source, tree);
     let answer = opened.answer;
     if number(answer) != 0 {
-        calls::refused(answer);
+        call_list::refused(answer);
         return;
     }
     let mut words = [0u32; 32768];
@@ -48,7 +48,7 @@ fn show(source: &[u8], tree: &[u8], file: &[u8]) {
     lines::outline(source, first(&words, n), n);
     let mut out = [0u8; 65536];
     let state = opened.state;
-    calls::replay(source, tree, &mut out, state, file);
+    call_list::replay(source, tree, &mut out, state, file);
 }
 
 fn main() {

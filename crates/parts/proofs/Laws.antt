@@ -1,7 +1,7 @@
 -- What the rules of expressions cite: an expression that must stand next, what stands in front of `=>`, and that an operator is taken. Assumes nothing.
 use Rattle.steps.proofs.Rules.{List, ℕ, Record, RecordNo, Ws, Script, Plan, make, Engine, engine, Makes, Stream, isByte, takeIf, write, Goes, got, Takes}
 use Rattle.steps.proofs.Rules.{expect-takes, plain-leaves, plain-takes, _takes-then_}
-use Rattle.steps.specs.Flow.{Got}
+use Rattle.walk.specs.Flow.{Got}
 use Rattle.parts.specs.Spaced.{isExpr, expectExpr, isGuard, expectGuard, between}
 
 module _ {x : Script} (rs : List Record) (f : RecordNo → Plan) {s s′ : Stream} {w w′ q b : List ℕ} {k : RecordNo} {e : Engine} where

@@ -8,8 +8,8 @@ use Rattle.kinds.specs.Facts.{byteOf}
 use Rattle.meaning.specs.declared.call.Literal.the-variants.{Bars, Parens}
 use Rattle.meaning.specs.declared.call.Hint.the-variants.{Line}
 use Rattle.meaning.specs.declared.call.Call.the-variants.{Comments, Nl, Lit}
-use Rattle.steps.specs.Stream.{Stream}
-use Rattle.steps.specs.Flow.{Flow, _▸_, call, write, pump, expect, ifNext, is, parse}
+use Rattle.walk.specs.Stream.{Stream}
+use Rattle.walk.specs.Flow.{Flow, _▸_, call, write, pump, expect, ifNext, is, parse}
 use Rattle.steps.specs.Items.{list}
 use Rattle.patterns.specs.Pattern.{pat, fnArgs}
 use Rattle.parts.specs.Spaced.{word, between}

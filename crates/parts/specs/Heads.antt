@@ -7,8 +7,8 @@ use Rattle.tree.specs.declared.record.Record.{Record}
 use Rattle.kinds.specs.declared.Kind.{Kind}
 use Rattle.kinds.specs.Facts.{byteOf}
 use Rattle.meaning.specs.declared.call.Call.the-variants.{Ws}
-use Rattle.steps.specs.Stream.{Stream}
-use Rattle.steps.specs.Flow.{Flow, _▸_, call, write, spaced, pump, expect, eat}
+use Rattle.walk.specs.Stream.{Stream}
+use Rattle.walk.specs.Flow.{Flow, _▸_, call, write, spaced, pump, expect, eat}
 use Rattle.paths.specs.Attribute.{attributes, modifiers}
 use Rattle.paths.specs.Path.{path}
 use Rattle.bodies.specs.Body.{itemStruct, itemEnum}

@@ -9,9 +9,9 @@ use Rattle.kinds.specs.Facts.{byteOf}
 use Rattle.meaning.specs.declared.call.Literal.the-variants.{Braces}
 use Rattle.meaning.specs.declared.call.Call.the-variants.{Ws, Lit}
 use Rattle.meaning.specs.Plan.{Plan, nothing, make}
-use Rattle.steps.specs.Stream.{Stream}
-use Rattle.steps.specs.Flow.{Flow, _▸_, call, write, pump, expect, is}
-use Rattle.steps.specs.Loop.{loop}
+use Rattle.walk.specs.Stream.{Stream}
+use Rattle.walk.specs.Flow.{Flow, _▸_, call, write, pump, expect, is}
+use Rattle.walk.specs.Loop.{loop}
 use Rattle.parts.specs.Spaced.{isExpr}
 use Rattle.parts.specs.Args.{closureArgs}
 

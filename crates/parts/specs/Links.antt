@@ -10,8 +10,8 @@ use Rattle.kinds.specs.declared.Kind.{Kind}
 use Rattle.meaning.specs.declared.call.Hint.the-variants.{Prefix, Suffix}
 use Rattle.meaning.specs.declared.call.Call.the-variants.{Comments, Indent, Nl}
 use Rattle.meaning.specs.Plan.{Plan, nothing, make, _then_}
-use Rattle.steps.specs.Stream.{Stream}
-use Rattle.steps.specs.Flow.{Flow, _▸_, call, write, pump, expect, ifNext, is}
+use Rattle.walk.specs.Stream.{Stream}
+use Rattle.walk.specs.Flow.{Flow, _▸_, call, write, pump, expect, ifNext, is}
 use Rattle.paths.specs.Path.{path}
 use Rattle.loose.specs.Chain.{isDot}
 

@@ -9,7 +9,7 @@ use Rattle.tree.specs.Table.{nodeOf}
 use Rattle.kinds.specs.declared.Kind.{Kind}
 use Rattle.meaning.specs.declared.answer.Refusal.the-variants.{WrongKind, NoRule}
 use Rattle.meaning.specs.Plan.{Plan, refuse}
-use Rattle.steps.specs.Flow.{write, pump, is, parse}
+use Rattle.walk.specs.Flow.{write, pump, is, parse}
 use Rattle.paths.specs.Path.{path}
 use Rattle.patterns.specs.Pattern.{patLit}
 

@@ -10,9 +10,9 @@ use Rattle.kinds.specs.declared.Kind.{Kind}
 use Rattle.kinds.specs.Facts.{byteOf}
 use Rattle.meaning.specs.declared.call.Call.the-variants.{Ws}
 use Rattle.meaning.specs.Plan.{Plan}
-use Rattle.queue.specs.Loans.{Loan}
-use Rattle.steps.specs.Stream.{Stream, takeIf, tree, streamIn, streamOut}
-use Rattle.steps.specs.Flow.{Flow, _▸_, call, write, given, notMet, expectByte, either, is, Got}
+use Rattle.lent.specs.Loans.{Loan}
+use Rattle.walk.specs.Stream.{Stream, takeIf, tree, streamIn, streamOut}
+use Rattle.walk.specs.Flow.{Flow, _▸_, call, write, given, notMet, expectByte, either, is, Got}
 
 -- an expression, whether it needs a semicolon or not
 unfoldable pub isExpr : List Record → ℕ → Bool

@@ -1,20 +1,20 @@
 // What leads to a value that may be missing, closures and jumps: format.rs 980 to 1027, 1137 to 1179.
 use crate::args::closure_args;
 use crate::spaced::next_expr;
+use calls::lit;
+use calls::ws;
 use kinds::bytes;
+use lent::formatter::Formatter;
+use lent::ring::Queue;
 use meaning::call::Literal;
-use output::calls::lit;
-use output::calls::ws;
-use queue::formatter::Formatter;
-use queue::ring::Queue;
-use steps::stream::Stream;
-use steps::stream::next_is;
-use steps::tokens::any;
-use steps::tokens::token;
+use walk::stream::Stream;
+use walk::stream::next_is;
+use walk::tokens::any;
+use walk::tokens::token;
 ghost use mathlib.Core.Path.{_≡_};
-ghost use Rattle.queue.specs.Loans.{Made};
-ghost use Rattle.steps.specs.Stream.{tree, streamIn, nextIs};
-ghost use Rattle.steps.specs.Flow.{Walked};
+ghost use Rattle.lent.specs.Loans.{Made};
+ghost use Rattle.walk.specs.Stream.{tree, streamIn, nextIs};
+ghost use Rattle.walk.specs.Flow.{Walked};
 ghost use Rattle.parts.specs.Leads.{jumpLabels, jumpWord, leadHead, leadTakes, beforeValue, noValue};
 
 // Behind `break` and `continue`.

@@ -1,24 +1,24 @@
 // The links of a chain that lead to no expression, and the line breaks between links: format.rs 1231 to 1281.
+use calls::comments;
+use calls::indent;
+use calls::nl;
 use kinds::bytes;
+use lent::formatter::Formatter;
+use lent::ring::Queue;
 use loose::chain::is_dot;
 use meaning::call::Hint;
-use output::calls::comments;
-use output::calls::indent;
-use output::calls::nl;
 use paths::path::next_path;
-use queue::formatter::Formatter;
-use queue::ring::Queue;
-use steps::stream::Stream;
-use steps::stream::left_over;
-use steps::stream::next_is;
-use steps::stream::records_of;
-use steps::tokens::any;
-use steps::tokens::token;
 use tree::record::RecordNo;
 use tree::table::kind_at;
-ghost use Rattle.queue.specs.Loans.{Made};
-ghost use Rattle.steps.specs.Stream.{tree};
-ghost use Rattle.steps.specs.Flow.{Walked, parse};
+use walk::stream::Stream;
+use walk::stream::left_over;
+use walk::stream::next_is;
+use walk::stream::records_of;
+use walk::tokens::any;
+use walk::tokens::token;
+ghost use Rattle.lent.specs.Loans.{Made};
+ghost use Rattle.walk.specs.Stream.{tree};
+ghost use Rattle.walk.specs.Flow.{Walked, parse};
 ghost use Rattle.parts.specs.Links.{tried, awaited, fieldOf, openIndex, closeIndex, indentFirst, breakLink, chainEnd};
 
 // `?`.

@@ -1,19 +1,19 @@
 // A node in the place of an expression that leads to no expression: format.rs 579 to 589, 647 to 649, 681 to 683.
+use calls::write_owned;
 use kinds::bytes;
+use lent::formatter::Formatter;
+use lent::formatter::refuse;
+use lent::ring::Queue;
 use meaning::answer::Refusal;
-use output::calls::write_owned;
 use paths::path::path;
 use patterns::pat_parts::pat_lit;
-use queue::formatter::Formatter;
-use queue::formatter::refuse;
-use queue::ring::Queue;
-use steps::stream::left_over;
-use steps::stream::records_of;
-use steps::tokens::any;
 use tree::record::RecordNo;
 use tree::table::kind_at;
-ghost use Rattle.queue.specs.Loans.{Made, Refused};
-ghost use Rattle.steps.specs.Stream.{tree};
+use walk::stream::left_over;
+use walk::stream::records_of;
+use walk::tokens::any;
+ghost use Rattle.lent.specs.Loans.{Made, Refused};
+ghost use Rattle.walk.specs.Stream.{tree};
 ghost use Rattle.parts.specs.Lone.{whole, lone, noItem};
 
 // One node or token, written whole: a template, a full range.

@@ -1,20 +1,20 @@
 // Tokens with spaces, and the kinds that are the Rust's Expr.
+use calls::ws;
 use kinds::bytes;
-use output::calls::ws;
-use queue::formatter::Formatter;
-use queue::ring::Queue;
-use steps::stream::Stream;
-use steps::stream::is_some;
-use steps::stream::next_is;
-use steps::stream::not_met;
-use steps::stream::nothing;
-use steps::stream::pump;
-use steps::stream::take;
-use steps::tokens::token;
+use lent::formatter::Formatter;
+use lent::ring::Queue;
 use tree::record::RecordNo;
+use walk::stream::Stream;
+use walk::stream::is_some;
+use walk::stream::next_is;
+use walk::stream::not_met;
+use walk::stream::nothing;
+use walk::stream::pump;
+use walk::stream::take;
+use walk::tokens::token;
 ghost use mathlib.Core.Path.{_≡_};
-ghost use Rattle.steps.specs.Stream.{tree, streamIn, streamOut, nextIs, takeIf, Ate};
-ghost use Rattle.steps.specs.Flow.{Walked};
+ghost use Rattle.walk.specs.Stream.{tree, streamIn, streamOut, nextIs, takeIf, Ate};
+ghost use Rattle.walk.specs.Flow.{Walked};
 ghost use Rattle.parts.specs.Spaced.{isExpr, ExpectedExpr, TookGuard, word, between};
 
 // An expression is next, whether it needs a semicolon or not.

@@ -11,9 +11,9 @@ use Rattle.kinds.specs.Facts.{factsOf, byteOf}
 use Rattle.meaning.specs.declared.call.Call.{Call}
 use Rattle.meaning.specs.declared.call.Call.the-variants.{WriteOwned, Nl}
 use Rattle.meaning.specs.Plan.{callsOf}
-use Rattle.steps.specs.Stream.{Stream, stream, no, recordsOf, takeIf}
-use Rattle.steps.specs.Flow.{Flow, _▸_, plain, onFound, pump}
-use Rattle.steps.specs.Loop.{turns, loop}
+use Rattle.walk.specs.Stream.{Stream, stream, no, recordsOf, takeIf}
+use Rattle.walk.specs.Flow.{Flow, _▸_, plain, onFound, pump}
+use Rattle.walk.specs.Loop.{turns, loop}
 use Rattle.paths.specs.Attribute.{attributes, innerAttributes}
 
 record-of : ℕ → ℕ → Record

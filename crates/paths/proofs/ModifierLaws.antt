@@ -2,7 +2,7 @@
 use Rattle.steps.proofs.Rules.{_≡_, refl, sym, subst, _∙_, Bool, true, false, cond, _||_, List, _⊎_, inl, inr, ℕ, zero, suc, _+_, _-_, _<_, _≤_}
 use Rattle.steps.proofs.Rules.{arith, eqb, ne-eqb, Record, RecordNo, nodeOf, byteOf, factsOf, Ws, WrongKind, Script, make, refuse, _then_, Engine}
 use Rattle.steps.proofs.Rules.{engine, Makes, Refuses, write, parse, pump-takes, Each}
-use Rattle.queue.proofs.MadeLaws as made
+use Rattle.lent.proofs.MadeLaws as made
 use Rattle.paths.specs.Attribute.{apart, isWord, modifierWord, modifierIn, modifier, nextModifier}
 
 -- ---- by the byte of its kind

@@ -9,9 +9,9 @@ use Rattle.meaning.specs.declared.call.Hint.the-variants.{Infix}
 use Rattle.meaning.specs.declared.call.Call.the-variants.{Comments, Nl, Ws}
 use Rattle.meaning.specs.declared.answer.Refusal.the-variants.{WrongKind}
 use Rattle.meaning.specs.Plan.{Plan, nothing, make, refuse, _then_}
-use Rattle.steps.specs.Stream.{Stream}
-use Rattle.steps.specs.Flow.{Flow, flow, _▸_, call, write, pump, expect, eat, is, parse}
-use Rattle.steps.specs.Loop.{loop}
+use Rattle.walk.specs.Stream.{Stream}
+use Rattle.walk.specs.Flow.{Flow, flow, _▸_, call, write, pump, expect, eat, is, parse}
+use Rattle.walk.specs.Loop.{loop}
 use Rattle.steps.specs.Seen.{each, lastly}
 use Rattle.paths.specs.Path.{path}
 

@@ -7,9 +7,9 @@ use Rattle.tree.specs.declared.record.RecordNo.{RecordNo}
 use Rattle.kinds.specs.declared.Kind.{Kind}
 use Rattle.meaning.specs.declared.answer.Refusal.the-variants.{TreeDeep}
 use Rattle.meaning.specs.Plan.{Plan, refuse}
-use Rattle.steps.specs.Stream.{Stream}
-use Rattle.steps.specs.Flow.{Flow, _▸_, write, pump, expect, is, parse}
-use Rattle.steps.specs.Loop.{loop}
+use Rattle.walk.specs.Stream.{Stream}
+use Rattle.walk.specs.Flow.{Flow, _▸_, write, pump, expect, is, parse}
+use Rattle.walk.specs.Loop.{loop}
 use Rattle.steps.specs.Items.{list}
 
 -- any node but generics is written whole

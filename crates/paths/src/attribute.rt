@@ -1,13 +1,13 @@
 // Attributes: format.rs 64 to 84. Each stands on a line of its own.
+use calls::nl;
 use kinds::bytes;
-use output::calls::nl;
-use queue::formatter::Formatter;
-use queue::ring::Queue;
-use steps::stream::Stream;
-use steps::stream::next_is;
-use steps::tokens::any;
-ghost use Rattle.steps.specs.Stream.{tree};
-ghost use Rattle.steps.specs.Flow.{Walked};
+use lent::formatter::Formatter;
+use lent::ring::Queue;
+use walk::stream::Stream;
+use walk::stream::next_is;
+use walk::tokens::any;
+ghost use Rattle.walk.specs.Stream.{tree};
+ghost use Rattle.walk.specs.Flow.{Walked};
 ghost use Rattle.paths.specs.Attribute.{innerAttributes, attributes};
 
 pub fn inner_attributes(

@@ -1,28 +1,28 @@
 // Modifiers: format.rs 86 to 134.
 use crate::path::next_path;
+use calls::comments;
+use calls::write_owned;
+use calls::ws;
 use kinds::bytes;
+use lent::formatter::Formatter;
+use lent::formatter::refuse;
+use lent::ring::Queue;
 use meaning::answer::Refusal;
 use meaning::call::Hint;
-use output::calls::comments;
-use output::calls::write_owned;
-use output::calls::ws;
-use queue::formatter::Formatter;
-use queue::formatter::refuse;
-use queue::ring::Queue;
-use steps::stream::Stream;
-use steps::stream::eat;
-use steps::stream::has_next;
-use steps::stream::is_some;
-use steps::stream::left_over;
-use steps::stream::pump;
-use steps::stream::records_of;
-use steps::tokens::any;
-use steps::tokens::token;
 use tree::record::RecordNo;
 use tree::table::kind_at;
-ghost use Rattle.queue.specs.Loans.{Made};
-ghost use Rattle.steps.specs.Stream.{tree};
-ghost use Rattle.steps.specs.Flow.{Walked, parse};
+use walk::stream::Stream;
+use walk::stream::eat;
+use walk::stream::has_next;
+use walk::stream::is_some;
+use walk::stream::left_over;
+use walk::stream::pump;
+use walk::stream::records_of;
+use walk::tokens::any;
+use walk::tokens::token;
+ghost use Rattle.lent.specs.Loans.{Made};
+ghost use Rattle.walk.specs.Stream.{tree};
+ghost use Rattle.walk.specs.Flow.{Walked, parse};
 ghost use Rattle.paths.specs.Attribute.{modifierWord, modifierIn, apart, modifier, modifierList, modifiers};
 
 // `(super)`, `(self)`, `(crate)`.

@@ -1,28 +1,28 @@
 // Paths and their generics: format.rs 281 to 319. A cycle, in which the depth that is left falls.
+use calls::write_owned;
 use kinds::bytes;
+use lent::formatter::Formatter;
+use lent::formatter::refuse;
+use lent::ring::Queue;
 use meaning::answer::Refusal;
-use output::calls::write_owned;
-use queue::formatter::Formatter;
-use queue::formatter::refuse;
-use queue::ring::Queue;
 use steps::items::before_item;
 use steps::items::behind_item;
 use steps::items::close_list;
 use steps::remaining::fresh;
-use steps::stream::Stream;
-use steps::stream::expect;
-use steps::stream::has_next;
-use steps::stream::left_over;
-use steps::stream::next_is;
-use steps::stream::pump;
-use steps::stream::records_of;
-use steps::tokens::token;
 use tree::record::RecordNo;
 use tree::table::kind_at;
+use walk::stream::Stream;
+use walk::stream::expect;
+use walk::stream::has_next;
+use walk::stream::left_over;
+use walk::stream::next_is;
+use walk::stream::pump;
+use walk::stream::records_of;
+use walk::tokens::token;
 ghost use Rattle.kinds.specs.declared.Kind.{Kind};
-ghost use Rattle.queue.specs.Loans.{Made};
-ghost use Rattle.steps.specs.Stream.{tree};
-ghost use Rattle.steps.specs.Flow.{Walked, expect};
+ghost use Rattle.lent.specs.Loans.{Made};
+ghost use Rattle.walk.specs.Stream.{tree};
+ghost use Rattle.walk.specs.Flow.{Walked, expect};
 ghost use Rattle.paths.specs.Path.{path, pathPart, pathGenerics};
 
 // Its parts, one behind the other.

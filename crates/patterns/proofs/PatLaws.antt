@@ -5,7 +5,7 @@ use Rattle.steps.proofs.Rules.{Makes, Refuses, Stream, stream, isByte, nextIn, 
 use Rattle.steps.proofs.Rules.{is, expect, eat, ifNext, either, parse, Goes, Remaining, fmt, ignore, says, Few, fewOf, more, Place, place, turn, _▹_}
 use Rattle.steps.proofs.Rules.{steady, Falls, Takes, Leaves, pump-leaves, expect-leaves, plain-leaves, next-leaves, _leaves-then_, plain-takes}
 use Rattle.steps.proofs.Rules.{turn-falls}
-use Rattle.queue.proofs.MadeLaws as made
+use Rattle.lent.proofs.MadeLaws as made
 use Rattle.paths.specs.Path.{path}
 use Rattle.patterns.specs.Pattern.{tupleEnd, tupled, tupleRule, patTuple, isKey, keyOrDots, colonPat, objectItem, keyed, silent, objectClosing}
 use Rattle.patterns.specs.Pattern.{objectEnd, patAttributes, patChild, pat}

@@ -10,9 +10,9 @@ use Rattle.meaning.specs.declared.call.Call.the-variants.{Comments, Ws}
 use Rattle.meaning.specs.declared.answer.Refusal.the-variants.{TreeDeep, WrongKind}
 use Rattle.meaning.specs.Plan.{Plan, nothing, make, refuse, _then_}
 use Rattle.steps.specs.declared.remaining.Mark.the-variants.{Comma, CloseBrace}
-use Rattle.steps.specs.Stream.{Stream, nextIs}
-use Rattle.steps.specs.Flow.{Flow, flow, _▸_, plain, call, write, pump, expect, eat, ifNext, either, is, parse}
-use Rattle.steps.specs.Loop.{loop}
+use Rattle.walk.specs.Stream.{Stream, nextIs}
+use Rattle.walk.specs.Flow.{Flow, flow, _▸_, plain, call, write, pump, expect, eat, ifNext, either, is, parse}
+use Rattle.walk.specs.Loop.{loop}
 use Rattle.steps.specs.Remaining.{Remaining, fmt, ignore, says, remaining, putRemaining}
 use Rattle.steps.specs.Items.{Few, Zero, One, Many, Place, items, list, listed, suffix}
 use Rattle.paths.specs.Path.{path}

@@ -1,8 +1,8 @@
 // The arguments of a function: format.rs 1575 to 1599.
 use crate::pat::pat;
 use kinds::bytes;
-use queue::formatter::Formatter;
-use queue::ring::Queue;
+use lent::formatter::Formatter;
+use lent::ring::Queue;
 use steps::items::before_item;
 use steps::items::behind_item;
 use steps::items::close_list;
@@ -10,15 +10,15 @@ use steps::remaining::Mark;
 use steps::remaining::fresh;
 use steps::remaining::pass;
 use steps::remaining::take_remaining;
-use steps::stream::left_over;
-use steps::stream::next_is;
-use steps::stream::pump;
-use steps::stream::records_of;
-use steps::tokens::token;
 use tree::record::RecordNo;
-ghost use Rattle.queue.specs.Loans.{Made};
-ghost use Rattle.steps.specs.Stream.{tree};
-ghost use Rattle.steps.specs.Flow.{parse};
+use walk::stream::left_over;
+use walk::stream::next_is;
+use walk::stream::pump;
+use walk::stream::records_of;
+use walk::tokens::token;
+ghost use Rattle.lent.specs.Loans.{Made};
+ghost use Rattle.walk.specs.Stream.{tree};
+ghost use Rattle.walk.specs.Flow.{parse};
 ghost use Rattle.patterns.specs.Pattern.{fnArgs};
 
 // A comma in front of the first is passed over.

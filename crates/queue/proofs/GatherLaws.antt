@@ -11,21 +11,22 @@ use Rattle.text.specs.{Span.textOf, Lines.newlines, declared.span.Span.Span}
 use Rattle.tree.specs.{declared.record.Record.Record, Records.cutRecord, Table.nodeOf}
 use Rattle.meaning.specs.{declared.answer.Refusal.Refusal, declared.answer.Refusal.the-variants.QueueFull, declared.answer.Answer.the-variants.Done}
 use Rattle.meaning.specs.{declared.answer.Answer.the-variants.Refused, State.Script, State.Note, State.Comment, State.queued, State.State}
-use Rattle.meaning.specs.{State.withQueue, State.withLines, Outcome.Outcome, Outcome.refused, Collect.Entry, Collect.inner, Collect.remark}
-use Rattle.meaning.specs.{Collect.blank, Collect.stop, Collect.entryAt, Collect.entryOf, Collect.entriesFrom, Collect.Collected, Collect.full}
+use Rattle.meaning.specs.{State.withQueue, State.withLines, Outcome.Outcome, Outcome.refused, Collect.Met, Collect.inner, Collect.remark}
+use Rattle.meaning.specs.{Collect.blank, Collect.stop, Collect.metAt, Collect.metOf, Collect.metFrom, Collect.Collected, Collect.full}
 use Rattle.meaning.specs.{Collect.got, Collect.before, Collect.orElse, Collect.collect, Collect.onGot, Collect.collected, Collect.gather}
-use Rattle.queue.specs.{Run.Run, Run.answered, Run.collectedRun, View.tab, View.ringAt, View.queueOf, View.view, View.asEntry, Parts.Gathered}
+use Rattle.lent.specs.{Run.Run, Run.answered, Run.collectedRun, View.tab, View.ringAt, View.queueOf, View.view}
+use Rattle.queue.specs.{Met.asMet, Parts.Gathered}
 use Rattle.queue.specs.{Parts.Collects, Parts.onAnswer}
-use Rattle.queue.specs.declared.collect.Entry as entry
-use Rattle.queue.proofs.TabLaws.{length-tab, take-tab}
+use Rattle.queue.specs.declared.collect.Met as met
+use Rattle.lent.proofs.TabLaws.{length-tab, take-tab}
 
 -- ---- what a record is to the collector
 
-pub at-inner : (below kind : ℕ) (span : Span) (n : ℕ) → 0 < below → inner ≡ entryAt below kind span n
+pub at-inner : (below kind : ℕ) (span : Span) (n : ℕ) → 0 < below → inner ≡ metAt below kind span n
 at-inner zero kind span n h = absurd (omega arith)
 at-inner (suc below) kind span n h = refl
 
-pub at-stop : (kind : ℕ) (span : Span) (n : ℕ) → (kind ≡ 0 → ⊥) → (kind ≡ 1 → ⊥) → (kind ≡ 2 → ⊥) → stop ≡ entryAt 0 kind span n
+pub at-stop : (kind : ℕ) (span : Span) (n : ℕ) → (kind ≡ 0 → ⊥) → (kind ≡ 1 → ⊥) → (kind ≡ 2 → ⊥) → stop ≡ metAt 0 kind span n
 at-stop zero span n a b c = absurd (a refl)
 at-stop (suc zero) span n a b c = absurd (b refl)
 at-stop (suc (suc zero)) span n a b c = absurd (c refl)
@@ -49,11 +50,11 @@ newlines-fit src span =
 -- ---- the records from i on
 
 module _ (x : Script) (i : ℕ) where
-  rest-next : i < length (x .tree) → entriesFrom x i ≡ entryOf (x .source) (nodeOf (x .tree) i) ∷ entriesFrom x (i + 1)
+  rest-next : i < length (x .tree) → metFrom x i ≡ metOf (x .source) (nodeOf (x .tree) i) ∷ metFrom x (i + 1)
   unfolding nodeOf
   rest-next h = rw (add-one i, drop-cons (x .tree) i (cutRecord 0) h)
 
-  rest-none : length (x .tree) ≤ i → entriesFrom x i ≡ []
+  rest-none : length (x .tree) ≤ i → metFrom x i ≡ []
   rest-none h = rw (drop-of-length-le (x .tree) h)
 
 -- ---- one turn
@@ -66,27 +67,27 @@ on-before s c k (full i) = refl
 on-before s c k (got lines cs) = ap (λ (q : List Comment). k (withLines (withQueue s q) lines)) (sym (append-assoc (s .queue) (c ∷ []) cs))
 
 module _ (x : Script) (i : ℕ) (s : State) (k : State → Outcome) (h : i < length (x .tree)) where
-  go-inner : entryOf (x .source) (nodeOf (x .tree) i) ≡ inner → gather x i s k ≡ gather x (i + 1) s k
+  go-inner : metOf (x .source) (nodeOf (x .tree) i) ≡ inner → gather x i s k ≡ gather x (i + 1) s k
   unfolding gather collect
   go-inner e = rw (rest-next x i h, e, add-one i)
 
-  go-blank : (n : ℕ) → entryOf (x .source) (nodeOf (x .tree) i) ≡ blank n → gather x i s k ≡ gather x (i + 1) (withLines s (orElse (s .lines) n)) k
+  go-blank : (n : ℕ) → metOf (x .source) (nodeOf (x .tree) i) ≡ blank n → gather x i s k ≡ gather x (i + 1) (withLines s (orElse (s .lines) n)) k
   unfolding gather collect
   go-blank n e = rw (rest-next x i h, e, add-one i)
 
-  go-stop : entryOf (x .source) (nodeOf (x .tree) i) ≡ stop → gather x i s k ≡ k s
+  go-stop : metOf (x .source) (nodeOf (x .tree) i) ≡ stop → gather x i s k ≡ k s
   unfolding gather collect
   go-stop e = rw (rest-next x i h, e, append-nil)
 
-  go-full : (n : Note) → entryOf (x .source) (nodeOf (x .tree) i) ≡ remark n → 256 ≤ length (s .queue) → gather x i s k ≡ refused (QueueFull (record { 0 = i }))
+  go-full : (n : Note) → metOf (x .source) (nodeOf (x .tree) i) ≡ remark n → 256 ≤ length (s .queue) → gather x i s k ≡ refused (QueueFull (record { 0 = i }))
   unfolding gather collect
   go-full n e l = let z : 256 - length (s .queue) ≡ 0 = omega arith in rw (rest-next x i h, e, z)
 
-  go-note : (n : Note) → entryOf (x .source) (nodeOf (x .tree) i) ≡ remark n → length (s .queue) < 256 → gather x i s k ≡ gather x (i + 1) (pushed s (queued n (s .lines))) k
+  go-note : (n : Note) → metOf (x .source) (nodeOf (x .tree) i) ≡ remark n → length (s .queue) < 256 → gather x i s k ≡ gather x (i + 1) (pushed s (queued n (s .lines))) k
   unfolding gather collect
   go-note n e l =
       let z : 256 - length (s .queue) ≡ suc (256 - length (s .queue ++ (queued n (s .lines) ∷ []))) = omega (arith, length-append (s .queue) (queued n (s .lines) ∷ [])) in
-      rw (rest-next x i h, e, z, add-one i) (on-before s (queued n (s .lines)) k (collect (suc i) (256 - length (s .queue ++ (queued n (s .lines) ∷ []))) 0 (entriesFrom x (suc i))))
+      rw (rest-next x i h, e, z, add-one i) (on-before s (queued n (s .lines)) k (collect (suc i) (256 - length (s .queue ++ (queued n (s .lines) ∷ []))) 0 (metFrom x (suc i))))
 
 go-end : (x : Script) (i : ℕ) (s : State) (k : State → Outcome) → length (x .tree) ≤ i → gather x i s k ≡ k s
 unfolding gather collect
@@ -103,17 +104,17 @@ pub gather-start : {x : Script} {from : ℕ} {run : Run} {q₀ : List ℕ} → G
 gather-start = record { out = λ k. refl; kept = refl; more = omega arith }
 
 module _ {x : Script} {from : ℕ} {run : Run} {q₀ q : List ℕ} {i lines count : ℕ} (g : Gathering x from run q₀ q i lines count) where
-  module _ (r : Record) (e : entry.Entry) (h : i < length (x .tree)) (er : r ≡ nodeOf (x .tree) i) (ee : asEntry (r .span) e ≡ entryOf (x .source) r) where
-    found : {y : Entry} → asEntry (r .span) e ≡ y → entryOf (x .source) (nodeOf (x .tree) i) ≡ y
-    found y = ap (entryOf (x .source)) (sym er) ∙ sym ee ∙ y
+  module _ (r : Record) (e : met.Met) (h : i < length (x .tree)) (er : r ≡ nodeOf (x .tree) i) (ee : asMet (r .span) e ≡ metOf (x .source) r) where
+    found : {y : Met} → asMet (r .span) e ≡ y → metOf (x .source) (nodeOf (x .tree) i) ≡ y
+    found y = ap (metOf (x .source)) (sym er) ∙ sym ee ∙ y
 
-    pub gather-inner : asEntry (r .span) e ≡ inner → Gathering x from run q₀ q (i + 1) lines count
+    pub gather-inner : asMet (r .span) e ≡ inner → Gathering x from run q₀ q (i + 1) lines count
     gather-inner y = record { out = λ k. g .out k ∙ go-inner x i _ k h (found y); kept = g .kept; more = g .more }
 
-    pub gather-blank : (n l : ℕ) → asEntry (r .span) e ≡ blank n → l ≡ orElse lines n → Gathering x from run q₀ q (i + 1) l count
+    pub gather-blank : (n l : ℕ) → asMet (r .span) e ≡ blank n → l ≡ orElse lines n → Gathering x from run q₀ q (i + 1) l count
     gather-blank n l y el = record { out = λ k. g .out k ∙ rw el (go-blank x i _ k h n (found y)); kept = g .kept; more = g .more }
 
-    pub gather-note : (line : Bool) (q′ : List ℕ) → asEntry (r .span) e ≡ remark (record { span = r .span; line = line }) → count < 256
+    pub gather-note : (line : Bool) (q′ : List ℕ) → asMet (r .span) e ≡ remark (record { span = r .span; line = line }) → count < 256
         → queueOf q′ (run .head) (count + 1) ≡ queueOf q (run .head) count ++ (record { span = r .span; before = lines; line = line } ∷ [])
         → Gathering x from run q₀ q′ (i + 1) 0 (count + 1)
     gather-note line q′ y l p =
@@ -130,10 +131,10 @@ module _ {x : Script} {from : ℕ} {run : Run} {q₀ q : List ℕ} {i lines coun
           more = omega arith;
         }
 
-    pub gather-stop : {o : Run} → asEntry (r .span) e ≡ stop → o ≡ collectedRun run lines count → Gathered x from run q₀ o q
+    pub gather-stop : {o : Run} → asMet (r .span) e ≡ stop → o ≡ collectedRun run lines count → Gathered x from run q₀ o q
     gather-stop y eo = rw eo (record { out = λ a k. g .out k ∙ go-stop x i _ k h (found y) ∙ rw a; kept = g .kept; long = refl })
 
-    pub gather-full : {o : Run} (line : Bool) → asEntry (r .span) e ≡ remark (record { span = r .span; line = line }) → 256 ≤ count → o ≡ answered run (Refused (QueueFull (record { 0 = i }))) → Gathered x from run q₀ o q
+    pub gather-full : {o : Run} (line : Bool) → asMet (r .span) e ≡ remark (record { span = r .span; line = line }) → 256 ≤ count → o ≡ answered run (Refused (QueueFull (record { 0 = i }))) → Gathered x from run q₀ o q
     gather-full line y l eo =
         let n : length (queueOf q (run .head) count) ≡ count = length-tab (ringAt q) (run .head) count in
         rw eo (record { out = λ a k. g .out k ∙ go-full x i _ k h _ (found y) (omega arith); kept = g .kept; long = refl })

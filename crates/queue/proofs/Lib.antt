@@ -1,12 +1,6 @@
-pub mod WriteLaws
-pub mod TabLaws
-pub mod RingLaws
 pub mod StepLaws
 pub mod PassLaws
 pub mod ReleaseLaws
 pub mod GatherLaws
 pub mod GapLaws
-pub mod SlotLaws
-pub mod WordLaws
-pub mod MadeLaws
 pub mod OneLaws

@@ -3,11 +3,15 @@ use Rattle.text.proofs.Base.{_≡_, refl, sym, ap, List, [], _∷_, _++_, Bool,
 use lib.Seq.{sets}
 use Rattle.meaning.specs.{declared.answer.Refusal.the-variants.NoRoom, declared.answer.Answer.the-variants.Done}
 use Rattle.meaning.specs.{declared.answer.Answer.the-variants.Refused, State.Comment}
-use Rattle.queue.specs.{Run.Run, Run.answered, Run.letOutRun, declared.room.Gap.Gap, declared.release.Way.Way}
-use Rattle.queue.specs.{declared.release.Fit.the-variants.Past, declared.release.Fit.the-variants.Goes, View.ringAt, View.queueOf}
-use Rattle.queue.specs.{View.gapBytes, View.Laid, Passes.stopOf, Passes.frontOf, Passes.backOf, Passes.bytesFrom, Passes.Measured}
+use Rattle.lent.specs.{Run.Run, Run.answered, Run.letOutRun, declared.room.Gap.Gap}
+use Rattle.queue.specs.{declared.release.Way.Way}
+use Rattle.lent.specs.{View.ringAt, View.queueOf}
+use Rattle.queue.specs.{declared.release.Fit.the-variants.Past, declared.release.Fit.the-variants.Goes}
+use Rattle.lent.specs.{View.gapBytes, View.Laid}
+use Rattle.queue.specs.{Passes.stopOf, Passes.frontOf, Passes.backOf, Passes.bytesFrom, Passes.Measured}
 use Rattle.queue.specs.{Parts.LetsOut}
-use Rattle.queue.proofs.{TabLaws.tab-all, TabLaws.tab-none, RingLaws.ring-next, PassLaws.Put, PassLaws.Measuring, PassLaws.going-stop}
+use Rattle.lent.proofs.{TabLaws.tab-all, TabLaws.tab-none, RingLaws.ring-next}
+use Rattle.queue.proofs.{PassLaws.Put, PassLaws.Measuring, PassLaws.going-stop}
 use Rattle.queue.proofs.{PassLaws.measure-start, PassLaws.measure-turn, PassLaws.measure-over, PassLaws.measure-end, PassLaws.Writing}
 use Rattle.queue.proofs.{PassLaws.write-start, PassLaws.write-turn, PassLaws.write-end, ReleaseLaws.release-none, ReleaseLaws.release-past}
 use Rattle.queue.proofs.{ReleaseLaws.release-over, ReleaseLaws.release-room, ReleaseLaws.release-few, ReleaseLaws.release-done}

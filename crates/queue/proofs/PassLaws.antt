@@ -7,10 +7,11 @@ use lib.ListN.{length-append}
 use lib.Seq.{sets, length-sets}
 use Rattle.meaning.specs.{State.Comment, Release.takeUntil}
 use Rattle.queue.specs.{declared.release.Way.Way, declared.release.Fit.Fit, declared.release.Fit.the-variants.Past}
-use Rattle.queue.specs.{declared.release.Fit.the-variants.Goes, declared.room.Gap.Gap, View.gapBytes, Passes.stopOf, Passes.frontOf}
+use Rattle.lent.specs.{declared.room.Gap.Gap, View.gapBytes}
+use Rattle.queue.specs.{declared.release.Fit.the-variants.Goes, Passes.stopOf, Passes.frontOf}
 use Rattle.queue.specs.{Passes.gapOf, Passes.lettersOf, Passes.bytesOn, Passes.bytesFrom, Passes.going, Passes.reach, Passes.fitOf}
 use Rattle.queue.specs.{Passes.Measured}
-use Rattle.queue.proofs.WriteLaws.{laid-length, sets-append}
+use Rattle.lent.proofs.WriteLaws.{laid-length, sets-append}
 
 two-writes : (b b′ x y t : List ℕ) (len len′ : ℕ) → x ≡ y → len + length x ≡ len′ → b′ ≡ sets b len y → sets b′ len′ t ≡ sets b len (x ++ t)
 two-writes b b′ x y t len len′ e p h = cc (sets-append b x t len)

@@ -13,14 +13,18 @@ use Rattle.meaning.specs.{Outcome.refuseIf, Release.takeUntil, Release.dropUnti
 use Rattle.meaning.specs.{Release.stopLine, Release.stopSpace, Release.lineGap, Release.trimmed, Release.linePieces, Release.spaceGap}
 use Rattle.meaning.specs.{Release.spacePieces, Release.behindGap, World.world, World.result, World.made}
 use Rattle.meaning.proofs.Laws.{flat-append}
-use Rattle.queue.specs.{Run.Run, Run.isRefused, Run.answered, Run.letOutRun, declared.room.Gap.Gap, declared.release.Way.Way}
+use Rattle.lent.specs.{Run.Run, Run.isRefused, Run.answered, Run.letOutRun, declared.room.Gap.Gap}
+use Rattle.queue.specs.{declared.release.Way.Way}
 use Rattle.queue.specs.{declared.release.Way.the-variants.Lines, declared.release.Way.the-variants.Spaces}
-use Rattle.queue.specs.{declared.release.Fit.the-variants.Past, declared.release.Fit.the-variants.Goes, View.tab, View.ringAt, View.queueOf}
-use Rattle.queue.specs.{View.view, View.resultOf, View.gapBytes, View.Laid, Passes.releaseOf, Passes.stopOf, Passes.frontOf, Passes.backOf}
+use Rattle.lent.specs.{View.tab, View.ringAt, View.queueOf}
+use Rattle.queue.specs.{declared.release.Fit.the-variants.Past, declared.release.Fit.the-variants.Goes}
+use Rattle.lent.specs.{View.view, View.resultOf, View.gapBytes, View.Laid}
+use Rattle.queue.specs.{Passes.releaseOf, Passes.stopOf, Passes.frontOf, Passes.backOf}
 use Rattle.queue.specs.{Passes.bytesOn, Passes.bytesFrom, Passes.going, Passes.reach, Passes.written, Passes.fitOf, Passes.Measured}
-use Rattle.queue.specs.{Parts.LetsOut, Parts.settles, Parts.steps}
-use Rattle.queue.proofs.{WriteLaws.sets-append, WriteLaws.gap-length, TabLaws.length-tab, TabLaws.drop-tab, TabLaws.take-tab}
-use Rattle.queue.proofs.{RingLaws.head-mod, StepLaws.open-steps, PassLaws.fit-goes, PassLaws.fit-past}
+use Rattle.queue.specs.{Parts.LetsOut, Parts.settles, Parts.onward}
+use Rattle.lent.proofs.{WriteLaws.sets-append, WriteLaws.gap-length, TabLaws.length-tab, TabLaws.drop-tab, TabLaws.take-tab}
+use Rattle.lent.proofs.{RingLaws.head-mod}
+use Rattle.queue.proofs.{StepLaws.open-steps, PassLaws.fit-goes, PassLaws.fit-past}
 
 -- ---- the flag that the output is empty is a test of its length
 
@@ -140,7 +144,7 @@ same-done : (s : State) (len len′ : ℕ) (cs cs′ : List Comment) (b b′ : L
 same-done s len len′ cs cs′ b b′ e1 e2 e3 = rw (e1, e2, e3)
 
 module _ (src : List ℕ) (w : Way) (q : List ℕ) (run : Run) (b : List ℕ) (open-yet : run .answer ≡ Done) where
-  steps-are : steps (λ cap s. settles cap s (releaseOf src w s) (λ s′. s′)) (resultOf run q b) ≡ made (world (view run q) b) (settles (length b) (view run q) (releaseOf src w (view run q)) (λ s′. s′))
+  steps-are : onward (λ cap s. settles cap s (releaseOf src w s) (λ s′. s′)) (resultOf run q b) ≡ made (world (view run q) b) (settles (length b) (view run q) (releaseOf src w (view run q)) (λ s′. s′))
   steps-are = open-steps _ (run .answer) (world (view run q) b) open-yet
 
   over : {o : Run} → length b < run .len + length (written src w (view run q)) → o ≡ answered run (Refused (NoRoom (run .len))) → LetsOut src w q run b o b
@@ -220,10 +224,10 @@ module _ (src : List ℕ) (w : Way) (s : State) (b : List ℕ) (none : going w (
 
 -- a release changes nothing then, refused already or not
 pub release-none : (src : List ℕ) (w : Way) (q : List ℕ) (run : Run) (b : List ℕ) → going w (queueOf q (run .head) (run .count)) ≡ [] → run .len ≤ length b → LetsOut src w q run b run b
-unfolding steps
+unfolding onward
 release-none src w q run b none l = record { out = go (run .answer); stays = λ _. refl }
   where
-    go : (a : Answer) → result a (world (view run q) b) ≡ steps (λ cap s. settles cap s (releaseOf src w s) (λ s′. s′)) (result a (world (view run q) b))
+    go : (a : Answer) → result a (world (view run q) b) ≡ onward (λ cap s. settles cap s (releaseOf src w s) (λ s′. s′)) (result a (world (view run q) b))
     go Done = sym (idle src w (view run q) b none l)
     go (Refused e) = refl
 

@@ -7,32 +7,25 @@ use Rattle.meaning.specs.{declared.answer.Answer.the-variants.Done, declared.an
 use Rattle.meaning.specs.{Pieces.Piece, Pieces.Emit, Outcome.Outcome, Outcome.done, Outcome.refuseIf, Calls.act, Calls.no-node, Calls.a-node}
 use Rattle.meaning.specs.{Calls.namedBy, Calls.ifThere, Calls.step, World.World, World.world, World.capacity, World.Result, World.result, World.made}
 use Rattle.meaning.specs.{Plan.make, Plan.goOn, Plan.exec}
-use Rattle.queue.specs.{Run.Run, Run.isRefused, Run.answered, Run.movedRun, Run.readyAnswer, Run.readyRun, Run.presentAnswer, Run.presentRun}
-use Rattle.queue.specs.{View.view, View.resultOf, Parts.steps, Parts.settles}
+use Rattle.lent.specs.{Run.Run, Run.isRefused, Run.answered, Run.movedRun, Run.readyAnswer, Run.readyRun, Run.presentAnswer, Run.presentRun}
+use Rattle.lent.specs.{View.view, View.resultOf}
+use Rattle.queue.specs.{Parts.onward, Parts.settles}
 
 -- ---- open or stopped
 
-pub is-done : (a : Answer) → isRefused a ≡ false → a ≡ Done
-is-done Done h = refl
-is-done (Refused e) h = let z : _≡_ {A = ℕ} 0 1 = cc in absurd (omega arith)
-
--- a test of `stopped`, as the code makes it
-pub goes : {a : Answer} {t : Bool} → t ≡ isRefused a → t ≡ false → a ≡ Done
-goes {a} e h = is-done a (sym e ∙ h)
-
-pub open-steps : (f : ℕ → State → Outcome) (a : Answer) (w : World) → a ≡ Done → steps f (result a w) ≡ made w (f (capacity w) (w .state))
-unfolding steps
+pub open-steps : (f : ℕ → State → Outcome) (a : Answer) (w : World) → a ≡ Done → onward f (result a w) ≡ made w (f (capacity w) (w .state))
+unfolding onward
 open-steps f a w h = rw h
 
 stays : (a : Answer) (w : World) (k : World → Result) → isRefused a ≡ true → goOn a w k ≡ result a w
 stays Done w k h = let z : _≡_ {A = ℕ} 0 1 = cc in absurd (omega arith)
 stays (Refused e) w k h = refl
 
-pub stopped-steps : (f : ℕ → State → Outcome) (a : Answer) (w : World) → isRefused a ≡ true → result a w ≡ steps f (result a w)
-unfolding steps
+pub stopped-steps : (f : ℕ → State → Outcome) (a : Answer) (w : World) → isRefused a ≡ true → result a w ≡ onward f (result a w)
+unfolding onward
 stopped-steps f a w h = sym (stays a w _ h)
 
--- ---- a change of the state behind steps
+-- ---- a change of the state behind onward
 
 unfoldable pub thenState : (State → State) → Result → Result
 thenState f r = goOn (r .answer) (r .left) (λ w. result Done (world (f (w .state)) (w .buffer)))
@@ -52,12 +45,12 @@ on-room true r w u ps f = refl
 on-room false r w u ps f = refl
 
 pub settle-then : (e : State → Emit) (f : State → State) (a : Answer) (w : World)
-    → steps (λ cap s. settles cap s (e s) f) (result a w) ≡ thenState f (steps (λ cap s. settles cap s (e s) (λ s′. s′)) (result a w))
-unfolding steps thenState
+    → onward (λ cap s. settles cap s (e s) f) (result a w) ≡ thenState f (onward (λ cap s. settles cap s (e s) (λ s′. s′)) (result a w))
+unfolding onward thenState
 settle-then e f Done w = on-room (ltb (capacity w) (e (w .state) .state .len)) (NoRoom (w .state .len)) w (e (w .state) .state) (e (w .state) .out) f
 settle-then e f (Refused r) w = refl
 
--- ---- 10, then 11, before the steps of a call
+-- ---- 10, then 11, before the onward of a call
 
 ready-at : (t : Bool) (n : ℕ) (w : World) (k : World → Result) (o : Outcome) → k w ≡ made w o → made w (refuseIf t (Finished n) o) ≡ goOn (readyAnswer Done t n) w k
 unfolding refuseIf
@@ -76,8 +69,8 @@ module _ (x : Script) (c : Call) where
   opening-steps (Refused r) w = refl
 
   -- a call that names no node
-  pub ready-steps : (run : Run) (q b : List ℕ) → namedBy c ≡ no-node → exec x (make c) (resultOf run q b) ≡ steps (λ cap s. act x cap s c) (resultOf (readyRun run) q b)
-  unfolding exec steps readyRun
+  pub ready-steps : (run : Run) (q b : List ℕ) → namedBy c ≡ no-node → exec x (make c) (resultOf run q b) ≡ onward (λ cap s. act x cap s c) (resultOf (readyRun run) q b)
+  unfolding exec onward readyRun
   ready-steps run q b h = rw (opening-steps (run .answer) (world (view run q) b), h)
 
   present-steps : (a : Answer) (w : World) (k : RecordNo) → namedBy c ≡ a-node k
@@ -87,6 +80,6 @@ module _ (x : Script) (c : Call) where
 
   -- a call on node k
   pub present-call : (run : Run) (q b : List ℕ) (k : RecordNo) → namedBy c ≡ a-node k
-      → exec x (make c) (resultOf run q b) ≡ steps (λ cap s. act x cap s c) (resultOf (presentRun (x .tree) k (readyRun run)) q b)
-  unfolding exec steps readyRun presentRun
+      → exec x (make c) (resultOf run q b) ≡ onward (λ cap s. act x cap s c) (resultOf (presentRun (x .tree) k (readyRun run)) q b)
+  unfolding exec onward readyRun presentRun
   present-call run q b k h = opening-steps (run .answer) (world (view run q) b) ∙ present-steps (readyAnswer (run .answer) (run .finished) (run .len)) (world (view run q) b) k h

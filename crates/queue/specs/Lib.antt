@@ -1,7 +1,3 @@
-pub mod Run
-pub mod Words
-pub mod View
-pub mod Wording
-pub mod Loans
+pub mod Met
 pub mod Parts
 pub mod Passes

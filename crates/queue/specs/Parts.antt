@@ -16,17 +16,17 @@ use Rattle.meaning.specs.Flush.{flush}
 use Rattle.meaning.specs.Calls.{settle, writeNode}
 use Rattle.meaning.specs.World.{world, capacity, Result, made}
 use Rattle.meaning.specs.Plan.{goOn}
-use Rattle.queue.specs.Run.{Run, isRefused, answered, collectedRun}
-use Rattle.queue.specs.Words.{runOf}
-use Rattle.queue.specs.Loans.{Loan, script}
-use Rattle.queue.specs.declared.room.Gap.{Gap}
+use Rattle.lent.specs.Run.{Run, isRefused, answered, collectedRun}
+use Rattle.lent.specs.Words.{runOf}
+use Rattle.lent.specs.Loans.{Loan, script}
+use Rattle.lent.specs.declared.room.Gap.{Gap}
 use Rattle.queue.specs.declared.release.Way.{Way}
 use Rattle.queue.specs.Passes.{releaseOf}
-use Rattle.queue.specs.View.{queueOf, view, resultOf, gapBytes}
+use Rattle.lent.specs.View.{queueOf, view, resultOf, gapBytes}
 
--- steps that have an outcome, from a result on
-unfoldable pub steps : (ℕ → State → Outcome) → Result → Result
-steps f r = goOn (r .answer) (r .left) (λ w. made w (f (capacity w) (w .state)))
+-- onward that have an outcome, from a result on
+unfoldable pub onward : (ℕ → State → Outcome) → Result → Result
+onward f r = goOn (r .answer) (r .left) (λ w. made w (f (capacity w) (w .state)))
 
 -- what is emitted is written where there is room; no step of it looks at a script
 abbrev pub settles : ℕ → State → Emit → (State → State) → Outcome
@@ -34,7 +34,7 @@ settles cap s e f = settle (record { source = []; tree = [] }) cap s e f
 
 -- a release, from the run and the buffer b; a refused one changes nothing but the answer
 pub record LetsOut (src : List ℕ) (w : Way) (q : List ℕ) (run : Run) (b : List ℕ) (r : Run) (b′ : List ℕ) : Type 0 where
-  pub out : resultOf r q b′ ≡ steps (λ cap s. settles cap s (releaseOf src w s) (λ s′. s′)) (resultOf run q b)
+  pub out : resultOf r q b′ ≡ onward (λ cap s. settles cap s (releaseOf src w s) (λ s′. s′)) (resultOf run q b)
   pub stays : isRefused (r .answer) ≡ true → r ≡ answered run (r .answer)
 
 abbrev pub Released : Loan → Loan → Loan → Loan → Way → Type 0
@@ -43,7 +43,7 @@ Released src fmt queue out w =
 
 -- a flush and a text, whatever the ring holds
 pub record PutText (preserve : Bool) (t : List ℕ) (run : Run) (b : List ℕ) (r : Run) (b′ : List ℕ) : Type 0 where
-  pub out : (q : List ℕ) → resultOf r q b′ ≡ steps (λ cap s. settles cap s (flush preserve s (text t ∷ [])) (λ s′. s′)) (resultOf run q b)
+  pub out : (q : List ℕ) → resultOf r q b′ ≡ onward (λ cap s. settles cap s (flush preserve s (text t ∷ [])) (λ s′. s′)) (resultOf run q b)
 
 abbrev pub Put : Loan → Loan → Bool → Loan → Type 0
 Put fmt out preserve t = PutText preserve (now (t .entry)) (runOf (now (fmt .entry))) (now (out .entry)) (runOf (now (fmt .exit))) (now (out .exit))

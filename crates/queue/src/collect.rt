@@ -1,12 +1,12 @@
 // Collecting: comments behind a record go into the queue.
-use crate::formatter::Formatter;
-use crate::formatter::collected;
-use crate::formatter::count;
-use crate::formatter::head;
-use crate::formatter::refused;
-use crate::ring::Comment;
-use crate::ring::Queue;
-use crate::ring::push;
+use lent::formatter::Formatter;
+use lent::formatter::collected;
+use lent::formatter::count;
+use lent::formatter::head;
+use lent::formatter::refused;
+use lent::ring::Comment;
+use lent::ring::Queue;
+use lent::ring::push;
 use meaning::answer::Refusal;
 use text::lines::count_newlines;
 use text::span::Span;
@@ -18,13 +18,13 @@ use tree::table::size;
 ghost use mathlib.Core.Path.{_≡_};
 ghost use Rattle.text.specs.Lines.{newlines};
 ghost use Rattle.text.specs.Span.{textOf};
-ghost use Rattle.meaning.specs.Collect.{entryOf, orElse};
-ghost use Rattle.queue.specs.View.{asEntry};
+ghost use Rattle.meaning.specs.Collect.{metOf, orElse};
+ghost use Rattle.queue.specs.Met.{asMet};
 ghost use Rattle.queue.specs.Parts.{Collected};
 
 // What a record is to the collector: a composite that has children, a comment (of a line or not), white space with so many newlines, or
 // any other record, where collecting ends.
-enum Entry {
+enum Met {
     Inner,
     Remark(bool),
     Blank(u32),
@@ -38,22 +38,22 @@ fn newlines_in(src: &[u8], span: Span) -> u32
     count_newlines(part(src, span)) as u32
 }
 
-fn entry_of(src: &[u8], r: Record) -> Entry
-    ensures { λ e. ⌜ asEntry (r .span) e ≡ entryOf (now (src .entry)) r ⌝ }
+fn met_at(src: &[u8], r: Record) -> Met
+    ensures { λ e. ⌜ asMet (r .span) e ≡ metOf (now (src .entry)) r ⌝ }
 {
     if 0 < r.below {
-        return Entry::Inner;
+        return Met::Inner;
     }
     if r.kind == 0 {
-        return Entry::Blank(newlines_in(src, r.span));
+        return Met::Blank(newlines_in(src, r.span));
     }
     if r.kind == 1 {
-        return Entry::Remark(true);
+        return Met::Remark(true);
     }
     if r.kind == 2 {
-        return Entry::Remark(false);
+        return Met::Remark(false);
     }
-    Entry::Stop
+    Met::Stop
 }
 
 // The count, unless it is 0.
@@ -81,16 +81,16 @@ pub fn process_comments(
     let mut n = count(fmt);
     while i < end {
         let r = node(table, RecordNo(i));
-        let e = entry_of(src, r);
+        let e = met_at(src, r);
         match e {
-            Entry::Inner => {
+            Met::Inner => {
                 i += 1;
             }
-            Entry::Blank(k) => {
+            Met::Blank(k) => {
                 lines = or_else(lines, k);
                 i += 1;
             }
-            Entry::Remark(line) => {
+            Met::Remark(line) => {
                 if 256 <= n {
                     refused(fmt, Refusal::QueueFull(RecordNo(i)));
                     return true;
@@ -110,7 +110,7 @@ pub fn process_comments(
                 n += 1;
                 i += 1;
             }
-            Entry::Stop => {
+            Met::Stop => {
                 collected(fmt, lines, n);
                 return false;
             }

@@ -1,22 +1,22 @@
 // The releases: comments from the head of the queue are let out, in two passes over the ring. The first finds how many go and how far
 // they reach, so that nothing is written where there is no room; the second writes them.
-use crate::formatter::Formatter;
-use crate::formatter::count;
-use crate::formatter::head;
-use crate::formatter::indent;
-use crate::formatter::len;
-use crate::formatter::let_out;
-use crate::formatter::refused;
-use crate::formatter::stopped;
-use crate::ring::Comment;
-use crate::ring::Queue;
-use crate::ring::comment_at;
-use crate::room::Gap;
-use crate::room::lay;
-use crate::room::line_break;
-use crate::room::no_gap;
-use crate::room::one_space;
-use crate::room::passes;
+use lent::formatter::Formatter;
+use lent::formatter::count;
+use lent::formatter::head;
+use lent::formatter::indent;
+use lent::formatter::len;
+use lent::formatter::let_out;
+use lent::formatter::refused;
+use lent::formatter::stopped;
+use lent::ring::Comment;
+use lent::ring::Queue;
+use lent::ring::comment_at;
+use lent::room::Gap;
+use lent::room::lay;
+use lent::room::line_break;
+use lent::room::no_gap;
+use lent::room::one_space;
+use lent::room::passes;
 use meaning::answer::Answer;
 use meaning::answer::Refusal;
 use text::lines::trimmed;
@@ -25,11 +25,11 @@ ghost use mathlib.Core.Path.{_≡_};
 ghost use Prim.Native.Nat.{_≤_, _+_};
 ghost use lib.ListN.{length};
 ghost use lib.Dec.{eqb};
-ghost use Rattle.queue.specs.View.{queueOf, asComment, gapBytes};
-ghost use Rattle.queue.specs.Words.{runOf};
-ghost use Rattle.queue.specs.Run.{letOutRun};
+ghost use Rattle.lent.specs.View.{queueOf, asComment, gapBytes};
+ghost use Rattle.lent.specs.Words.{runOf};
+ghost use Rattle.lent.specs.Run.{letOutRun};
 ghost use Rattle.queue.specs.Passes.{stopOf, frontOf, gapOf, lettersOf, backOf, bytesFrom, reach, Measured};
-ghost use Rattle.queue.specs.Loans.{Wrote};
+ghost use Rattle.lent.specs.Loans.{Wrote};
 ghost use Rattle.queue.specs.Parts.{Released};
 
 // By lines, of the same line only or not; or by spaces, with one in front or not and one behind or not.

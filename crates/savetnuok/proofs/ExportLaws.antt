@@ -18,20 +18,21 @@ use Rattle.meaning.specs.Opening.{scriptIn, opening}
 use Rattle.meaning.specs.Lent.{serveRecord}
 use Rattle.meaning.specs.Numbers.{seen}
 use Rattle.meaning.specs.World.{World, world, Result, result, callRecord}
-use Rattle.queue.specs.Run.{isRefused}
+use Rattle.lent.specs.Run.{isRefused}
 use Rattle.entry.specs.Served.{stateOf, encoded, leftOf, Served, recordLeft}
 use Rattle.meaning.proofs.Kept.{Bounded, record-bounded}
 use Rattle.entry.specs.Ended.{runLeft}
 use Rattle.meaning.specs.Plan.{Plan}
-use Rattle.format.proofs.Tame.{Tame}
-use Rattle.words.specs.Words.{wordAt, inBytes}
-use Rattle.words.specs.StateBytes.{shaped, stateIn, bytesOf}
-use Rattle.words.specs.CodeState.{codeState, codeWords, Wrote, placeWord, Packed}
+use Rattle.rules.proofs.Tame.{Tame}
+use Rattle.wire.specs.Words.{wordAt, inBytes}
+use Rattle.wire.specs.StateBytes.{shaped, stateIn, bytesOf}
+use Rattle.wire.specs.CodeState.{codeState, codeWords, Wrote}
+use Rattle.packing.specs.Places.{placeWord, Packed}
 use Rattle.savetnuok.specs.Exported.{packed, thenShape, stateLeft, openAnswer, Opened, Handed, callResult, Called, runResult, Laid}
 use Rattle.savetnuok.proofs.PlaceLaws.{open-placed, shape-placed}
 use Rattle.savetnuok.proofs.ReadLaws.{Agree, agree}
 use Rattle.savetnuok.proofs.RunLaws.{run-bounded, agree-run}
-use Rattle.words.proofs.BackLaws.{Words, reads-back, shaped-back}
+use Rattle.wire.proofs.BackLaws.{Words, reads-back, shaped-back}
 
 -- ---- answers
 
@@ -89,7 +90,7 @@ module _ (src tree st : List ℕ) where
         let p = packs-open src tree (eqb (length st) 4128) a (sym good) en in
         record { answer = p .number; place-fits = p .fits; state = rw good (stays st a fresh (sym et ∙ h)) }
 
-    pub open-done : {t : Bool} {s : code.State} {st′ : List ℕ} → t ≡ isRefused a → t ≡ false → s ≡ encoded fresh → Wrote (codeWords s) st′ → Opened src tree st 0 st′
+    pub open-done : {t : Bool} {s : code.State} {st′ : List ℕ} → t ≡ isRefused a → t ≡ false → s ≡ encoded fresh → Wrote (codeWords (s .now) (s .queue)) st′ → Opened src tree st 0 st′
     unfolding packed bytesOf
     open-done {t} {s} {st′} et h es e =
         let d : openAnswer src tree st ≡ Done = good ∙ is-done a (sym et ∙ h) in
@@ -157,15 +158,15 @@ module _ (st b : List ℕ) {t : Bool} (et : t ≡ shaped st (length b)) (ht : t 
     asked-len : z .state .now .len < 4294967296
     asked-len = let e : z .state .now .len ≡ r′ .left .state .len = ap (λ (y : code.State). y .now .len) state-is in omega (arith, bounds went .fits, shape-fits st (length b) et ht)
 
-    words : ((i : ℕ) → getD (codeWords (z .state)) i 0 < 0x100000000) → Words (r′ .left .state)
-    words f = record { fit = subst (λ (y : code.State). (i : ℕ) → getD (codeWords y) i 0 < 0x100000000) state-is f; few = bounds went .room }
+    words : ((i : ℕ) → getD (codeWords (z .state .now) (z .state .queue)) i 0 < 0x100000000) → Words (r′ .left .state)
+    words f = record { fit = subst (λ (y : code.State). (i : ℕ) → getD (codeWords (y .now) (y .queue)) i 0 < 0x100000000) state-is f; few = bounds went .room }
 
-    asked-done : {st′ : List ℕ} → length b′ ≡ length b → Wrote (codeWords (z .state)) st′ → Handed st r 0 st′ b′
+    asked-done : {st′ : List ℕ} → length b′ ≡ length b → Wrote (codeWords (z .state .now) (z .state .queue)) st′ → Handed st r 0 st′ b′
     unfolding packed bytesOf
     asked-done {st′} long e =
         let same : r ≡ r′ = agreed .same went in
         let d : r .answer ≡ Done = ap (λ (y : Result). y .answer) same ∙ went in
-        let k : st′ ≡ bytesOf (r′ .left .state) = e .bytes-are ∙ ap (λ (y : code.State). inBytes (codeWords y)) state-is in
+        let k : st′ ≡ bytesOf (r′ .left .state) = e .bytes-are ∙ ap (λ (y : code.State). inBytes (codeWords (y .now) (y .queue))) state-is in
         let v = words (e .fit) in
         record {
           answer = rw d;
@@ -218,7 +219,7 @@ module _ (src tree st b bytes : List ℕ) {t : Bool} (et : t ≡ shaped st (leng
       pub call-len : z .state .now .len < 4294967296
       call-len = asked-len st b et ht (callResult src tree st b bytes) by-engine agreed served bounded eu hu
 
-      pub call-done : {st′ : List ℕ} → length b′ ≡ length b → Wrote (codeWords (z .state)) st′ → Called src tree st b bytes 0 st′ b′
+      pub call-done : {st′ : List ℕ} → length b′ ≡ length b → Wrote (codeWords (z .state .now) (z .state .queue)) st′ → Called src tree st b bytes 0 st′ b′
       call-done = asked-done st b et ht (callResult src tree st b bytes) by-engine agreed served bounded eu hu
 
 -- ---- run and layout: a plan that refuses by record numbers only
@@ -257,5 +258,5 @@ module _ (src tree st b : List ℕ) (p : Plan) (a : Tame p) {t : Bool} (et : t �
       pub run-len : z .state .now .len < 4294967296
       run-len = asked-len st b et ht (runResult src tree st b p) by-rules laid-agreed laid-served laid-bounded eu hu
 
-      pub run-done : {st′ : List ℕ} → length b′ ≡ length b → Wrote (codeWords (z .state)) st′ → Laid src tree st b p 0 st′ b′
+      pub run-done : {st′ : List ℕ} → length b′ ≡ length b → Wrote (codeWords (z .state .now) (z .state .queue)) st′ → Laid src tree st b p 0 st′ b′
       run-done = asked-done st b et ht (runResult src tree st b p) by-rules laid-agreed laid-served laid-bounded eu hu

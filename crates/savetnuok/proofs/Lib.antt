@@ -1,6 +1,7 @@
 mod PlaceLaws
 mod ReadLaws
 mod RunLaws
+mod RanLaws
 mod ExportLaws
 pub mod Sessions
 pub mod Unique

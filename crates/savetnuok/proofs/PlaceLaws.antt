@@ -20,7 +20,7 @@ use Rattle.meaning.specs.declared.answer.Answer.the-variants.{Done, Refused}
 use Rattle.meaning.specs.State.{Script, Comment, State}
 use Rattle.meaning.specs.Pieces.{Piece, Emit}
 use Rattle.meaning.specs.Outcome.{Outcome, done, refused, refuseIf}
-use Rattle.meaning.specs.Collect.{Collected, full, got, collect, onGot, entriesFrom, collected, gather, behind}
+use Rattle.meaning.specs.Collect.{Collected, full, got, collect, onGot, metFrom, collected, gather, behind}
 use Rattle.meaning.specs.Calls.{Shift, deeper, outer, signed, shifted, writeNode, act, Named, no-node, a-node, namedBy, ifThere, step}
 use Rattle.meaning.specs.CallRecord.{decode, asked}
 use Rattle.meaning.specs.Opening.{answerTo}
@@ -28,7 +28,7 @@ use Rattle.meaning.specs.Lent.{lentState, lent, serveRecord}
 use Rattle.meaning.specs.Numbers.{refusalSeen, seen}
 use Rattle.meaning.specs.World.{World, made, callRecord}
 use Rattle.savetnuok.specs.Exported.{thenShape}
-use Rattle.words.specs.CodeState.{indentPlace, refusalPlace, placeWord}
+use Rattle.packing.specs.Places.{indentPlace, refusalPlace, placeWord}
 
 -- ---- the indent as a word
 
@@ -71,7 +71,7 @@ module _ {indent : ℕ} where
 
   gather-placed : (x : Script) (i : ℕ) (s : State) (next : State → Outcome) → ((s′ : State) → Placed indent (next s′)) → Placed indent (gather x i s next)
   unfolding gather
-  gather-placed x i s next h = got-placed (collect i (256 - length (s .queue)) (s .lines) (entriesFrom x i)) _ (λ lines cs. h (collected s lines cs))
+  gather-placed x i s next h = got-placed (collect i (256 - length (s .queue)) (s .lines) (metFrom x i)) _ (λ lines cs. h (collected s lines cs))
 
 -- from a state whose length and whose indent are their own places
 module _ {indent : ℕ} (x : Script) (cap : ℕ) (s : State) (own-len : s .len ≡ s .len % 0x100000000) (own-level : s .indent ≡ indentPlace indent (s .indent)) where

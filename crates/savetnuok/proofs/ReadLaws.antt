@@ -19,13 +19,14 @@ use Rattle.meaning.specs.Calls.{step}
 use Rattle.meaning.specs.Lent.{anyOutside, lentState, serveRecord}
 use Rattle.meaning.specs.Numbers.{refusalSeen, seen}
 use Rattle.meaning.specs.World.{World, world, Result, result, callRecord}
-use Rattle.queue.specs.Run.{isRefused}
-use Rattle.queue.specs.View.{tab, ringAt}
+use Rattle.lent.specs.Run.{isRefused}
+use Rattle.lent.specs.View.{tab, ringAt}
 use Rattle.entry.specs.Served.{stateOf}
-use Rattle.queue.proofs.TabLaws.{length-tab, tab-same}
-use Rattle.words.specs.Words.{wordAt}
-use Rattle.words.specs.StateBytes.{commentAt, stateIn}
-use Rattle.words.specs.CodeState.{codeState, refusalPlace, placeWord}
+use Rattle.lent.proofs.TabLaws.{length-tab, tab-same}
+use Rattle.wire.specs.Words.{wordAt}
+use Rattle.wire.specs.StateBytes.{commentAt, stateIn}
+use Rattle.wire.specs.CodeState.{codeState}
+use Rattle.packing.specs.Places.{refusalPlace, placeWord}
 use Rattle.savetnuok.proofs.PlaceLaws.{handed-indent, record-placed}
 
 -- ---- the queue

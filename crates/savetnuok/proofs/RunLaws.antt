@@ -26,10 +26,11 @@ use Rattle.meaning.proofs.Step.{fair}
 use Rattle.meaning.proofs.Plans.{sticky}
 use Rattle.meaning.proofs.Kept.{Bounded}
 use Rattle.entry.specs.Served.{stateOf}
-use Rattle.format.proofs.Tame.{ByRecord, Tame}
-use Rattle.words.specs.Words.{wordAt}
-use Rattle.words.specs.StateBytes.{stateIn}
-use Rattle.words.specs.CodeState.{codeState, refusalPlace, placeWord}
+use Rattle.rules.proofs.Tame.{ByRecord, Tame}
+use Rattle.wire.specs.Words.{wordAt}
+use Rattle.wire.specs.StateBytes.{stateIn}
+use Rattle.wire.specs.CodeState.{codeState}
+use Rattle.packing.specs.Places.{refusalPlace, placeWord}
 use Rattle.savetnuok.proofs.PlaceLaws.{low-indent, Placed, stops, step-placed}
 use Rattle.savetnuok.proofs.ReadLaws.{early, tests, fifth, Agree, agree-both}
 

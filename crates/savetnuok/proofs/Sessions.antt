@@ -13,7 +13,7 @@ use Rattle.meaning.specs.declared.answer.Answer.the-variants.{Done, Refused}
 use Rattle.meaning.specs.State.{fresh}
 use Rattle.meaning.specs.Opening.{scriptIn, opening}
 use Rattle.meaning.specs.Numbers.{refusalSeen}
-use Rattle.queue.specs.View.{wordsOf, slotsOf}
+use Rattle.lent.specs.View.{slotWords, slotsOf}
 use Rattle.meaning.specs.World as World
 use Rattle.meaning.specs.World.{World, world, capacity, Result, callRecord}
 use Rattle.meaning.specs.Plan.{Plan, run}
@@ -22,11 +22,11 @@ use Rattle.meaning.specs.Demand3.{Demand3}
 use Rattle.meaning.proofs.Numbers.{one-to-twelve}
 use Rattle.meaning.proofs.Leaves.{record-refused, run-refused}
 use Rattle.meaning.proofs.Opens.{demand3-opened}
-use Rattle.words.specs.Words.{inBytes, wordBytes}
-use Rattle.words.specs.StateBytes.{shaped, stateIn, bytesOf}
+use Rattle.wire.specs.Words.{inBytes, wordBytes}
+use Rattle.wire.specs.StateBytes.{shaped, stateIn, bytesOf}
 use Rattle.savetnuok.specs.Exported.{packed, thenShape, openAnswer, Opened, Handed, callResult, Called, layoutOf, wholeOf, runResult, Laid}
 use Rattle.savetnuok.specs.Session.{Turn, eventOf, Session, ended, called, laid, laid-whole}
-use Rattle.words.proofs.BackLaws.{Words, reads-back, shaped-back}
+use Rattle.wire.proofs.BackLaws.{Words, reads-back, shaped-back}
 
 -- ---- a fresh engine
 
@@ -36,12 +36,12 @@ zero-fit (suc n) zero = omega arith
 zero-fit (suc n) (suc i) = zero-fit n i
 
 fresh-words : Words fresh
-unfolding slotsOf wordsOf
+unfolding slotsOf slotWords
 fresh-words = record { fit = zero-fit 1032; few = omega arith }
 
 -- it is all zero
 pub fresh-zero : bytesOf fresh ≡ replicate 4128 0
-unfolding bytesOf inBytes wordBytes slotsOf wordsOf
+unfolding bytesOf inBytes wordBytes slotsOf slotWords
 fresh-zero = refl
 
 -- ---- 0 is answered exactly where nothing is refused

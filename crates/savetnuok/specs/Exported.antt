@@ -14,10 +14,12 @@ use Rattle.meaning.specs.Opening.{scriptIn, opening}
 use Rattle.meaning.specs.Numbers.{seen}
 use Rattle.meaning.specs.World.{world, Result, result, callRecord}
 use Rattle.meaning.specs.Plan.{Plan, run}
-use Rattle.queue.specs.Loans.{Loan}
-use Rattle.format.specs.Rules.{layout}
-use Rattle.format.specs.Whole.{whole}
-use Rattle.words.specs.StateBytes.{shaped, stateIn, bytesOf}
+use Rattle.lent.specs.Loans.{Loan}
+use Rattle.format.specs.declared.runs.Wanted.{Wanted}
+use Rattle.format.specs.Laid.{planOf}
+use Rattle.rules.specs.Rules.{layout}
+use Rattle.rules.specs.Whole.{whole}
+use Rattle.wire.specs.StateBytes.{shaped, stateIn, bytesOf}
 
 -- 0 for done, else the refusal's number times 2^32, and its place, which each promise says to be below 2^32
 unfoldable pub packed : Answer → ℕ
@@ -86,6 +88,11 @@ runResult src tree st b p =
 
 abbrev pub Laid : List ℕ → List ℕ → List ℕ → List ℕ → Plan → ℕ → List ℕ → List ℕ → Type 0
 Laid src tree st b p n st′ b′ = Handed st (runResult src tree st b p) n st′ b′
+
+abbrev pub LaidAs : Loan → Loan → Loan → Loan → Wanted → ℕ → Type 0
+LaidAs source tree state out w n =
+    let src = now (source .entry) in let list = now (tree .entry) in
+    Laid src list (now (state .entry)) (now (out .entry)) (planOf (scriptIn src list) w) n (now (state .exit)) (now (out .exit))
 
 abbrev pub LaidOn : Loan → Loan → Loan → Loan → ℕ → ℕ → Type 0
 LaidOn source tree state out k n =

@@ -3,21 +3,31 @@
 use entry::checks::opening;
 use entry::engine::record;
 use entry::state::fresh;
-use format::runs::lay_out;
-use format::runs::run;
+use entry::state::now_of;
+use entry::state::started;
+use format::ended::zero_from;
+use format::runs::Wanted;
+use format::runs::run_in;
+use lent::formatter::answer;
+use lent::formatter::count;
+use lent::formatter::head;
+use lent::formatter::stopped;
+use lent::ring::tidy;
 use meaning::answer::Answer;
 use meaning::answer::Refusal;
+use packing::numbers::packed;
 use tree::record::RecordNo;
-use words::numbers::packed;
-use words::state_bytes::SIZE;
-use words::state_bytes::read_state;
-use words::state_bytes::shaped;
-use words::state_bytes::write_state;
-use words::word::word;
+use wire::state_bytes::SIZE;
+use wire::state_bytes::queue_in;
+use wire::state_bytes::read_now;
+use wire::state_bytes::read_state;
+use wire::state_bytes::shaped;
+use wire::state_bytes::write_state;
+use wire::word::word;
 ghost use mathlib.Core.Path.{_≡_};
 ghost use mathlib.Core.Bool.{false};
-ghost use Rattle.queue.specs.Run.{isRefused};
-ghost use Rattle.savetnuok.specs.Exported.{thenShape, Opened, CalledOn, LaidOn, WholeOn};
+ghost use Rattle.lent.specs.Run.{isRefused};
+ghost use Rattle.savetnuok.specs.Exported.{thenShape, Opened, CalledOn, LaidAs, LaidOn, WholeOn};
 
 // What is answered where the shape is wrong: 1, 2, 3, 7, else 5 at place 8,192.
 fn misshapen(a: Answer) -> Answer
@@ -50,7 +60,8 @@ pub extern "C" fn savetnuok_open(source: &[u8], tree: &[u8], state: &mut [u8]) -
     if refused(answer) {
         return packed(answer, 0);
     }
-    write_state(state, fresh());
+    let s = fresh();
+    write_state(state, s.now, &s.queue);
     0
 }
 
@@ -73,14 +84,35 @@ pub extern "C" fn savetnuok_call(
             return packed(answer, indent);
         }
         let s = step.state;
-        write_state(state, s);
+        write_state(state, s.now, &s.queue);
         return 0;
     }
     packed(misshapen(opening(source, tree)), 0)
 }
 
-// A layout run on a node of the tree, on the lent state and buffer. Refused, it zeroes the buffer from the state's length on, unless the
-// shape is wrong: then no word of the state is trusted.
+// A run in place: the state's words go into the engine's, and back where nothing was refused. Refused, it zeroes the buffer from the state's
+// length on, unless the shape is wrong: then no word of the state is trusted.
+fn laid(source: &[u8], tree: &[u8], state: &mut [u8], out: &mut [u8], w: Wanted) -> u64
+    ensures { λ r. ⌜ LaidAs source tree state out w r ⌝ }
+{
+    if shaped(state, out.len()) {
+        let indent = word(state, 4);
+        let now = read_now(state);
+        let mut fmt = started(now, opening(source, tree));
+        let mut queue = queue_in(state);
+        run_in(source, tree, &mut fmt, &mut queue, out, w);
+        if stopped(&fmt) {
+            zero_from(out, now.len);
+            return packed(answer(&fmt), indent);
+        }
+        let waiting = tidy(&queue, head(&fmt), count(&fmt));
+        write_state(state, now_of(&fmt), &waiting);
+        return 0;
+    }
+    packed(misshapen(opening(source, tree)), 0)
+}
+
+// A layout run on a node of the tree, on the lent state and buffer.
 #[no_mangle]
 pub extern "C" fn savetnuok_run(
     source: &[u8],
@@ -91,21 +123,10 @@ pub extern "C" fn savetnuok_run(
 ) -> u64
     ensures { λ r. ⌜ LaidOn source tree state out node r ⌝ }
 {
-    if shaped(state, out.len()) {
-        let indent = word(state, 4);
-        let step = run(source, tree, out, read_state(state), RecordNo(node));
-        let answer = step.answer;
-        if refused(answer) {
-            return packed(answer, indent);
-        }
-        let s = step.state;
-        write_state(state, s);
-        return 0;
-    }
-    packed(misshapen(opening(source, tree)), 0)
+    laid(source, tree, state, out, Wanted::Node(RecordNo(node)))
 }
 
-// A whole layout of the script whose body is record 0, on the lent state and buffer. Refused, it leaves what a refused run leaves.
+// A whole layout of the script whose body is record 0, on the lent state and buffer.
 #[no_mangle]
 pub extern "C" fn savetnuok_layout(
     source: &[u8],
@@ -115,16 +136,5 @@ pub extern "C" fn savetnuok_layout(
 ) -> u64
     ensures { λ r. ⌜ WholeOn source tree state out r ⌝ }
 {
-    if shaped(state, out.len()) {
-        let indent = word(state, 4);
-        let step = lay_out(source, tree, out, read_state(state));
-        let answer = step.answer;
-        if refused(answer) {
-            return packed(answer, indent);
-        }
-        let s = step.state;
-        write_state(state, s);
-        return 0;
-    }
-    packed(misshapen(opening(source, tree)), 0)
+    laid(source, tree, state, out, Wanted::All)
 }

@@ -3,17 +3,18 @@ use Rattle.text.proofs.Base.{_≡_, refl, sym, ap, _∙_, Bool, true, false, co
 use Rattle.tree.specs.{declared.record.Record.Record, declared.record.RecordNo.RecordNo}
 use Rattle.meaning.specs.{declared.call.Hint.the-variants.Prefix, declared.call.Hint.the-variants.Infix, declared.call.Call.the-variants.Comments}
 use Rattle.meaning.specs.{declared.call.Call.the-variants.Ws, State.Script, Plan.Plan, Plan.nothing, Plan.make, Plan._then_}
-use Rattle.queue.specs.Loans.{Engine, Makes}
-use Rattle.queue.proofs.MadeLaws as made
+use Rattle.lent.specs.Loans.{Engine, Makes}
+use Rattle.lent.proofs.MadeLaws as made
 use Rattle.steps.specs.declared.remaining.Mark.the-variants.{Comma}
 use Rattle.steps.specs.declared.remaining.Remaining as code
-use Rattle.steps.specs.Stream.{Stream, nextIn, nextIs, takeIn, takeIf}
-use Rattle.steps.specs.Flow.{Flow, _▸_, plain, pump, Goes}
+use Rattle.walk.specs.Stream.{Stream, nextIn, nextIs, takeIn, takeIf}
+use Rattle.walk.specs.Flow.{Flow, _▸_, plain, pump, Goes}
 use Rattle.steps.specs.Remaining.{Remaining, Fresh, isMark, fmt, ignore, says, restIf, remaining, remainingOf, RestsWith}
 use Rattle.steps.specs.Items.{Few, Zero, Place, place, more, item, rested, behind, turn, begin, items, separated, listed, suffix, closing}
 use Rattle.steps.specs.Items.{closed, list}
-use Rattle.steps.proofs.{FlowLaws._▹_, FlowLaws.steady, LoopLaws.Falls, LoopLaws.Going, LoopLaws.starts, LoopLaws.goes-on, LoopLaws.done}
-use Rattle.steps.proofs.{LoopLaws.falls, TakeLaws.Takes, TakeLaws.pump-takes, TakeLaws.plain-takes, TakeLaws.rest-leaves, RestLaws.fresh-one}
+use Rattle.walk.proofs.{FlowLaws._▹_, FlowLaws.steady, LoopLaws.Falls, LoopLaws.Going, LoopLaws.starts, LoopLaws.goes-on, LoopLaws.done}
+use Rattle.steps.proofs.{TakeLaws.Takes, TakeLaws.pump-takes, TakeLaws.plain-takes, TakeLaws.rest-leaves, RestLaws.fresh-one}
+use Rattle.walk.proofs.{LoopLaws.falls}
 
 -- ---- the comma of the item before, and of the last
 

@@ -1,9 +1,5 @@
-pub mod StreamLaws
-pub mod FlowLaws
-pub mod LoopLaws
 pub mod TakeLaws
 pub mod SeenLaws
 pub mod RestLaws
 pub mod ItemLaws
-pub mod RuleLaws
 pub mod Rules

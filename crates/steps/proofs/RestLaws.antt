@@ -5,16 +5,16 @@ use Rattle.tree.proofs.Laws.{found-is, found-not}
 use Rattle.kinds.specs.Facts.{byteOf}
 use Rattle.meaning.specs.{declared.call.Literal.Literal, declared.call.Call.the-variants.Lit, State.Script, Plan.Plan, Plan.nothing, Plan.make}
 use Rattle.meaning.specs.{Plan._then_}
-use Rattle.queue.specs.Loans.{Engine, engine, Makes, Refuses}
-use Rattle.queue.proofs.MadeLaws as made
+use Rattle.lent.specs.Loans.{Engine, engine, Makes, Refuses}
+use Rattle.lent.proofs.MadeLaws as made
 use Rattle.steps.specs.declared.remaining.Mark.{Mark}
 use Rattle.steps.specs.declared.remaining.Remaining as code
-use Rattle.steps.specs.Stream.{Stream, no, isByte, isSome, nextIs, takeIf, Ate}
-use Rattle.steps.specs.Flow.{flow, write, ignored, notMet, Goes}
+use Rattle.walk.specs.Stream.{Stream, no, isByte, isSome, nextIs, takeIf, Ate}
+use Rattle.walk.specs.Flow.{flow, write, ignored, notMet, Goes}
 use Rattle.steps.specs.Remaining.{Remaining, Fresh, Missing, Present, tokenOf, literalOf, isMark, fmt, ignore, says, isPresent, writeIf, writeOnlyIf}
 use Rattle.steps.specs.Remaining.{second, restIf, remaining}
 use Rattle.steps.specs.Remaining.{putRemaining, remainingOf, Rests, RestsWith}
-use Rattle.steps.proofs.StreamLaws.{some-is, some-not}
+use Rattle.walk.proofs.StreamLaws.{some-is, some-not}
 
 -- ---- the number
 

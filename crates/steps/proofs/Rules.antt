@@ -10,22 +10,22 @@ pub use Rattle.meaning.specs.declared.call.Call.the-variants.{Comments, Indent,
 pub use Rattle.meaning.specs.declared.answer.Refusal.the-variants.{TreeDeep, WrongKind}
 pub use Rattle.meaning.specs.State.{Script}
 pub use Rattle.meaning.specs.Plan.{Plan, nothing, make, refuse, _then_}
-pub use Rattle.queue.specs.View.{scriptOf}
-pub use Rattle.queue.specs.Loans.{Engine, engine, Makes, Refuses}
-pub use Rattle.queue.proofs.MadeLaws.{keeps, nothing-made}
-pub use Rattle.steps.specs.Stream.{Stream, stream, isByte, nextIn, nextIs, recordsOf, takeIn, takeAny, streamAt, Ate}
-unfoldable pub use Rattle.steps.specs.Stream.{takeIf}
-pub use Rattle.steps.specs.Flow.{Flow, flow, call, write, spaced, ignored, expect, eat, is, Goes}
-unfoldable pub use Rattle.steps.specs.Flow.{_▸_, plain, pump, expectByte, ifNext, either, parse}
+pub use Rattle.lent.specs.View.{scriptOf}
+pub use Rattle.lent.specs.Loans.{Engine, engine, Makes, Refuses}
+pub use Rattle.lent.proofs.MadeLaws.{keeps, nothing-made}
+pub use Rattle.walk.specs.Stream.{Stream, stream, isByte, nextIn, nextIs, recordsOf, takeIn, takeAny, streamAt, Ate}
+unfoldable pub use Rattle.walk.specs.Stream.{takeIf}
+pub use Rattle.walk.specs.Flow.{Flow, flow, call, write, spaced, ignored, expect, eat, is, Goes}
+unfoldable pub use Rattle.walk.specs.Flow.{_▸_, plain, pump, expectByte, ifNext, either, parse}
 unfoldable pub use Rattle.steps.specs.Remaining.{fmt, ignore, says, putRemaining, remainingOf}
 pub use Rattle.steps.specs.Remaining.{Remaining}
 pub use Rattle.steps.specs.Items.{Few, Zero, One, Many, fewOf, more, Place, place, suffix}
 unfoldable pub use Rattle.steps.specs.Items.{turn, listed, list}
-pub use Rattle.steps.proofs.StreamLaws.{next-at, next-none}
-pub use Rattle.steps.proofs.FlowLaws.{_▹_, steady, kept-length, got, pumped, expected, eaten, eaten-not, parsed}
-pub use Rattle.steps.proofs.LoopLaws.{Falls, Going, starts, goes-on, done, falls}
+pub use Rattle.walk.proofs.StreamLaws.{next-at, next-none}
+pub use Rattle.walk.proofs.FlowLaws.{_▹_, steady, kept-length, got, pumped, expected, eaten, eaten-not, parsed}
+pub use Rattle.walk.proofs.LoopLaws.{Falls, Going, starts, goes-on, done, falls}
 pub use Rattle.steps.proofs.TakeLaws.{Takes, Leaves, pump-takes, pump-leaves, expect-takes, expect-leaves, put-leaves, plain-leaves, next-leaves, _takes-then_, _leaves-then_, plain-takes, taking-falls, pump-falls, pump-then-falls}
 pub use Rattle.steps.proofs.SeenLaws.{Seeing, Each, none-seen, next-seen, seen-less, all-seen, last-done}
 pub use Rattle.steps.proofs.RestLaws.{rests-with, rest-then}
 pub use Rattle.steps.proofs.ItemLaws.{Counting, Listing, none-counted, no-item, next-turn, turn-less, turn-falls, next-item, item-less, next-counted, counted, items-done, listed-all}
-pub use Rattle.steps.proofs.RuleLaws.{if-so, if-not, step-so, step-not, next-so, next-not, kind-is, kind-other, either-first, either-second}
+pub use Rattle.walk.proofs.RuleLaws.{if-so, if-not, step-so, step-not, next-so, next-not, kind-is, kind-other, either-first, either-second}

@@ -1,11 +1,12 @@
 -- Loops that ask whether there was an item, under way. Assumes nothing.
 use Rattle.text.proofs.Base.{_≡_, refl, Bool, true, false, ℕ, _<_, length}
 use Rattle.meaning.specs.{State.Script, Plan.Plan}
-use Rattle.queue.specs.Loans.{Engine, Makes}
-use Rattle.queue.proofs.MadeLaws as made
-use Rattle.steps.specs.{Stream.Stream, Stream.nextIs, Flow.Flow, Flow.Goes, Seen.Seen, Seen.seen, Seen.noneYet, Seen.another, Seen.each}
+use Rattle.lent.specs.Loans.{Engine, Makes}
+use Rattle.lent.proofs.MadeLaws as made
+use Rattle.steps.specs.{Seen.Seen, Seen.seen, Seen.noneYet, Seen.another, Seen.each}
+use Rattle.walk.specs.{Stream.Stream, Stream.nextIs, Flow.Flow, Flow.Goes}
 use Rattle.steps.specs.{Seen.lastly}
-use Rattle.steps.proofs.{FlowLaws._▹_, LoopLaws.Falls, LoopLaws.Going, LoopLaws.starts, LoopLaws.goes-on, LoopLaws.done, LoopLaws.falls}
+use Rattle.walk.proofs.{FlowLaws._▹_, LoopLaws.Falls, LoopLaws.Going, LoopLaws.starts, LoopLaws.goes-on, LoopLaws.done, LoopLaws.falls}
 use Rattle.steps.proofs.{TakeLaws.Takes}
 
 abbrev pub Seeing : Script → (ℕ → Bool) → (Bool → Stream → Flow Stream) → Stream → Engine → Stream → Engine → Bool → Type 0

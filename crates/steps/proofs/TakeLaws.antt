@@ -3,10 +3,12 @@ use Rattle.text.proofs.Base.{_≡_, refl, Bool, true, false, cond, List, [], _�
 use Rattle.tree.specs.{declared.record.Record.Record, declared.record.RecordNo.RecordNo, declared.cursor.Found.Found}
 use Rattle.tree.specs.{declared.cursor.Found.the-variants.At, declared.cursor.Found.the-variants.None}
 use Rattle.meaning.specs.Plan.{Plan}
-use Rattle.steps.specs.{declared.remaining.Mark.Mark, Stream.Stream, Stream.isByte, Stream.nextIn, Stream.nextIs, Stream.takeIn, Stream.takeIf}
-use Rattle.steps.specs.{Flow.Flow, Flow._▸_, Flow.plain, Flow.pump, Flow.expectByte, Flow.eatByte, Flow.ifNext, Remaining.isMark}
+use Rattle.steps.specs.{declared.remaining.Mark.Mark}
+use Rattle.walk.specs.{Stream.Stream, Stream.isByte, Stream.nextIn, Stream.nextIs, Stream.takeIn, Stream.takeIf}
+use Rattle.steps.specs.{Remaining.isMark}
+use Rattle.walk.specs.{Flow.Flow, Flow._▸_, Flow.plain, Flow.pump, Flow.expectByte, Flow.eatByte, Flow.ifNext}
 use Rattle.steps.specs.{Remaining.restIf, Remaining.remaining, Remaining.putRemaining}
-use Rattle.steps.proofs.LoopLaws.{Falls}
+use Rattle.walk.proofs.LoopLaws.{Falls}
 
 -- the step takes a record where one is wanted
 pub record Takes (want : ℕ → Bool) (f : Stream → Flow Stream) : Type 0 where

@@ -8,10 +8,10 @@ use Rattle.meaning.specs.declared.call.Hint.the-variants.{Prefix, Suffix, Infix
 use Rattle.meaning.specs.declared.call.Call.the-variants.{Comments, Ws}
 use Rattle.meaning.specs.Plan.{Plan, nothing, make, _then_}
 use Rattle.steps.specs.declared.remaining.Mark.the-variants.{Comma}
-use Rattle.steps.specs.Stream.{Stream}
-use Rattle.steps.specs.Flow.{Flow, flow, _▸_, plain, pump}
+use Rattle.walk.specs.Stream.{Stream}
+use Rattle.walk.specs.Flow.{Flow, flow, _▸_, plain, pump}
 use Rattle.steps.specs.Remaining.{Remaining, Fresh, fmt, ignore, says, remaining}
-use Rattle.steps.specs.Loop.{loop}
+use Rattle.walk.specs.Loop.{loop}
 
 -- none, one, or more: the Rust counts on, and asks no more than this
 pub data Few : Type 0 where

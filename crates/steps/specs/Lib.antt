@@ -1,6 +1,3 @@
-pub mod Stream
-pub mod Flow
-pub mod Loop
 pub mod Seen
 pub mod Remaining
 pub mod Items

@@ -16,12 +16,12 @@ use Rattle.meaning.specs.declared.call.Literal.{Literal}
 use Rattle.meaning.specs.declared.call.Literal.the-variants as literal
 use Rattle.meaning.specs.State.{Script}
 use Rattle.meaning.specs.Plan.{Plan, nothing, make, _then_}
-use Rattle.queue.specs.Loans.{Loan, script, Engine, before, after, Makes, Made, Refuses}
+use Rattle.lent.specs.Loans.{Loan, script, Engine, before, after, Makes, Made, Refuses}
 use Rattle.steps.specs.declared.remaining.Mark.{Mark}
 use Rattle.steps.specs.declared.remaining.Mark.the-variants.{Comma, SemiColon, Colon, CloseBrace}
 use Rattle.steps.specs.declared.remaining.Remaining as code
-use Rattle.steps.specs.Stream.{Stream, no, isByte, nextIs, takeIf, tree, streamIn, streamOut}
-use Rattle.steps.specs.Flow.{Flow, flow, write, ignored, notMet}
+use Rattle.walk.specs.Stream.{Stream, no, isByte, nextIs, takeIf, tree, streamIn, streamOut}
+use Rattle.walk.specs.Flow.{Flow, flow, write, ignored, notMet}
 
 -- a fresh one stands before the first item of a list
 pub data Remaining : Type 0 where

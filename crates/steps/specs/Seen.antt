@@ -2,9 +2,9 @@
 use Prim.Native.Nat.{ℕ}
 use mathlib.Core.Bool.{Bool, true, false}
 use Rattle.meaning.specs.Plan.{Plan, nothing}
-use Rattle.steps.specs.Stream.{Stream}
-use Rattle.steps.specs.Flow.{Flow, flow, _▸_}
-use Rattle.steps.specs.Loop.{loop}
+use Rattle.walk.specs.Stream.{Stream}
+use Rattle.walk.specs.Flow.{Flow, flow, _▸_}
+use Rattle.walk.specs.Loop.{loop}
 
 -- the records left, and whether an item stood before them
 pub record Seen : Type 0 where

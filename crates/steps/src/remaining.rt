@@ -1,22 +1,22 @@
 // A token that may be missing, as `remaining` of the Rust gives it.
-use crate::stream::Stream;
-use crate::stream::eat;
-use crate::stream::is_some;
-use crate::stream::next_is;
-use crate::stream::not_met;
+use calls::ignore;
+use calls::lit;
+use calls::write_owned;
 use kinds::bytes;
+use lent::formatter::Formatter;
+use lent::ring::Queue;
 use meaning::call::Literal;
-use output::calls::ignore;
-use output::calls::lit;
-use output::calls::write_owned;
-use queue::formatter::Formatter;
-use queue::ring::Queue;
 use tree::record::RecordNo;
+use walk::stream::Stream;
+use walk::stream::eat;
+use walk::stream::is_some;
+use walk::stream::next_is;
+use walk::stream::not_met;
 ghost use mathlib.Core.Path.{_≡_};
 ghost use Rattle.kinds.specs.Facts.{byteOf};
-ghost use Rattle.queue.specs.Loans.{Made, Refused};
-ghost use Rattle.steps.specs.Stream.{tree, streamIn};
-ghost use Rattle.steps.specs.Flow.{Walked};
+ghost use Rattle.lent.specs.Loans.{Made, Refused};
+ghost use Rattle.walk.specs.Stream.{tree, streamIn};
+ghost use Rattle.walk.specs.Flow.{Walked};
 ghost use Rattle.steps.specs.Remaining.{tokenOf, literalOf, second, fmt as written, ignore, says, isPresent, writeIf, writeOnlyIf};
 ghost use Rattle.steps.specs.Remaining.{remainingOf, putRemaining, Rested, Tells, MadeOf};
 

@@ -2,7 +2,7 @@
 use mathlib.Core.Path.{_≡_, refl}
 use mathlib.Core.List.{[], _∷_, map}
 use Rattle.text.specs.declared.source.Checked.the-variants.{Good, Ill}
-use Rattle.unicode.specs.White.{mem, whites, isWhite}
+use Rattle.white.specs.White.{mem, whites, isWhite}
 use Rattle.unicode.specs.Utf8.{table, allIn, lenBy, charLen, formedFrom}
 use Rattle.text.specs.Source.{checked}
 use Rattle.text.specs.Chars.{code}

@@ -14,7 +14,7 @@ use Rattle.unicode.specs.declared.utf8.Formed.{Formed}
 use Rattle.unicode.specs.declared.utf8.Formed.the-variants.{Well}
 use Rattle.unicode.specs.Utf8.{Range, Row, cont, inRange, table, allIn, lenBy, charLen, atLead, formedFrom}
 use Rattle.text.specs.Chars.{edgeFrom, edge, starts, code, charsFrom, stepOf, charAt}
-use Rattle.unicode.proofs.Bools.{and-l, and-r}
+use Rattle.white.proofs.Bools.{and-l, and-r}
 use Rattle.unicode.proofs.RowLaws.{char-fits}
 use Rattle.unicode.proofs.WalkLaws.{plain-char}
 

@@ -9,7 +9,7 @@ use lib.Dec.{ltb}
 use lib.ListN.{length, getD, replicate, List·getD-append}
 use borrow.Author.Tests.{ltb-false}
 use Rattle.unicode.specs.declared.utf8.Formed.the-variants.{Well}
-use Rattle.unicode.specs.White.{mem, whites, isWhite}
+use Rattle.white.specs.White.{mem, whites, isWhite}
 use Rattle.unicode.specs.Utf8.{cont, inRange, charLen, formedFrom, formed}
 use Rattle.text.specs.Chars.{code}
 use Rattle.text.specs.Lines.{trim}

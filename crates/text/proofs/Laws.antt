@@ -19,7 +19,7 @@ use Rattle.text.specs.Source.{ofFormed, checked}
 use Rattle.text.specs.Chars.{edge, starts, inSource}
 use Rattle.text.specs.Lines.{trim, newlines}
 use Rattle.text.specs.Delete.{delete, Blank, Blanks}
-use Rattle.unicode.proofs.Bools.{and-l, and-r, le-or-lt}
+use Rattle.white.proofs.Bools.{and-l, and-r, le-or-lt}
 use Rattle.text.proofs.CharLaws as chars-laws
 use Rattle.text.proofs.LineLaws as lines-laws
 use Rattle.text.proofs.FormedLaws as formed-laws

@@ -12,7 +12,7 @@ use lib.Seq.{drop-cons, take-suc}
 use borrow.Author.Tests.{eqb-true}
 use Rattle.text.specs.Lines.{isBlank, trimAt, trim, newlines}
 use Rattle.text.specs.Delete.{Blank, is-space, is-tab, is-return, Blanks, no-blank, a-blank}
-use Rattle.unicode.proofs.Bools.{or-cases}
+use Rattle.white.proofs.Bools.{or-cases}
 
 -- ---- trimming, from behind
 

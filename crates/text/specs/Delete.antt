@@ -4,7 +4,7 @@ use mathlib.Core.Bool.{Bool, true, false, not}
 use mathlib.Core.List.{List, [], _∷_}
 use Rattle.unicode.specs.Utf8.{charLen}
 use Rattle.text.specs.Chars.{code}
-use Rattle.unicode.specs.White.{isWhite}
+use Rattle.white.specs.White.{isWhite}
 
 abbrev pub onto : Bool → ℕ → List ℕ → List ℕ
 onto true b bs = b ∷ bs

@@ -13,7 +13,7 @@ use Rattle.tree.specs.declared.cursor.Found.the-variants.{At, None}
 use Rattle.tree.specs.Table.{nodeOf}
 use Rattle.tree.specs.Cursor.{shown, passes, kept, behind, cursorOf, headOf, firstOf, peekOf}
 use Rattle.tree.specs.Nodes.{FirstAt, PeekAt}
-use Rattle.unicode.proofs.Bools.{le-or-lt}
+use Rattle.white.proofs.Bools.{le-or-lt}
 use Rattle.tree.proofs.CursorLaws.{behind-le, shown-past, shown-out, shown-cons}
 
 pub head-none : (ks : List ℕ) → headOf ks ≡ None → ks ≡ []

@@ -1,5 +1,3 @@
-pub mod Bools
-mod RangeLaws
 pub mod RowLaws
 pub mod WalkLaws
 pub mod WellFormed

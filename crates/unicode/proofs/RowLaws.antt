@@ -12,7 +12,7 @@ use lib.Seq.{drop-cons}
 use borrow.Author.Tests.{eqb-true, lt-ltb, le-ltb}
 use Rattle.unicode.specs.Utf8.{Range, Row, _⋯_, cont, inRange, table, allIn, lenBy, second, charLen}
 use Rattle.unicode.specs.Walk.{ByteIn}
-use Rattle.unicode.proofs.Bools.{and-l, and-r, and-true, below-at}
+use Rattle.white.proofs.Bools.{and-l, and-r, and-true, below-at}
 
 -- ---- ranges at a place
 

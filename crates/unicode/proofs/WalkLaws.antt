@@ -15,7 +15,7 @@ use borrow.Author.Tests.{le-leb, leb-true, leb-false, ltb-true, ltb-false, lt-lt
 use Rattle.unicode.specs.declared.utf8.Formed.the-variants.{Well, Ill}
 use Rattle.unicode.specs.Utf8.{table, allIn, lenBy, charLen, atLead, formedFrom, allPlain}
 use Rattle.unicode.specs.Walk.{Past, PlainTo}
-use Rattle.unicode.proofs.Bools.{and-l, and-r, and-assoc, and-true, le-or-lt}
+use Rattle.white.proofs.Bools.{and-l, and-r, and-assoc, and-true, le-or-lt}
 use Rattle.unicode.proofs.RowLaws.{char-fits, char-one}
 
 -- ---- the first ill-formed place

@@ -14,7 +14,7 @@ use borrow.Author.Tests.{leb-true, lt-leb, eqb-true, eq-eqb}
 use Rattle.unicode.specs.declared.utf8.Formed.{Formed}
 use Rattle.unicode.specs.declared.utf8.Formed.the-variants.{Well, Ill}
 use Rattle.unicode.specs.Utf8.{Range, Row, inRange, table, allIn, isRow, isSequence, WellFormed, none, more, FirstIll, lenBy, charLen, atLead, formedFrom, formed}
-use Rattle.unicode.proofs.Bools.{and-l, and-r, or-cases}
+use Rattle.white.proofs.Bools.{and-l, and-r, or-cases}
 use Rattle.unicode.proofs.RowLaws.{all-long, all-take, all-append, char-le}
 use Rattle.unicode.proofs.WalkLaws.{formed-skip}
 

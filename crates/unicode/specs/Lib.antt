@@ -1,3 +1,2 @@
-pub mod White
 pub mod Utf8
 pub mod Walk

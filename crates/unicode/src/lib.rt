@@ -1,3 +1,2 @@
-// Unicode's two tables that a source is held against: well-formed byte sequences, and White_Space.
+// Unicode's table of well-formed byte sequences, which a source is held against.
 pub mod utf8;
-pub mod white;

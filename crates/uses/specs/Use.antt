@@ -8,9 +8,9 @@ use Rattle.kinds.specs.declared.Kind.{Kind}
 use Rattle.meaning.specs.declared.call.Call.the-variants.{Ws}
 use Rattle.meaning.specs.declared.answer.Refusal.the-variants.{TreeDeep}
 use Rattle.meaning.specs.Plan.{Plan, nothing, refuse}
-use Rattle.steps.specs.Stream.{Stream}
-use Rattle.steps.specs.Flow.{Flow, flow, _▸_, plain, call, write, spaced, ignored, pump, expect, eat, ifNext, is, parse}
-use Rattle.steps.specs.Loop.{loop}
+use Rattle.walk.specs.Stream.{Stream}
+use Rattle.walk.specs.Flow.{Flow, flow, _▸_, plain, call, write, spaced, ignored, pump, expect, eat, ifNext, is, parse}
+use Rattle.walk.specs.Loop.{loop}
 use Rattle.steps.specs.Items.{Few, Zero, One, Many, more, list}
 
 unfoldable pub usePart : List Record → (RecordNo → Plan) → RecordNo → Plan

@@ -1,28 +1,28 @@
 // What stands in uses and leads to no group.
+use calls::ignore;
+use calls::write_owned;
+use calls::ws;
 use kinds::bytes;
-use output::calls::ignore;
-use output::calls::write_owned;
-use output::calls::ws;
-use queue::formatter::Formatter;
-use queue::ring::Queue;
-use steps::stream::Stream;
-use steps::stream::expect;
-use steps::stream::has_next;
-use steps::stream::is_some;
-use steps::stream::next_is;
-use steps::stream::peek;
-use steps::stream::records_of;
-use steps::stream::take;
-use steps::tokens::any;
-use steps::tokens::spaced_if;
+use lent::formatter::Formatter;
+use lent::ring::Queue;
 use tree::record::RecordNo;
 use tree::table::kind_at;
+use walk::stream::Stream;
+use walk::stream::expect;
+use walk::stream::has_next;
+use walk::stream::is_some;
+use walk::stream::next_is;
+use walk::stream::peek;
+use walk::stream::records_of;
+use walk::stream::take;
+use walk::tokens::any;
+use walk::tokens::spaced_if;
 ghost use mathlib.Core.Path.{_≡_};
 ghost use mathlib.Core.Bool.{not};
 ghost use Prim.Native.Nat.{ℕ};
 ghost use Rattle.kinds.specs.declared.Kind.{Kind};
-ghost use Rattle.steps.specs.Stream.{tree, recordsOf, nextIs, streamIn};
-ghost use Rattle.steps.specs.Flow.{Walked, expectByte, is};
+ghost use Rattle.walk.specs.Stream.{tree, recordsOf, nextIs, streamIn};
+ghost use Rattle.walk.specs.Flow.{Walked, expectByte, is};
 ghost use Rattle.uses.specs.Use.{howMany, isOne, braced, asName};
 
 // Whether one of the records of node k is a path, and no more.

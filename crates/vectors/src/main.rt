@@ -70,7 +70,7 @@ fn whites() -> Tally {
         differ: 0,
     };
     for c in 0..0x110000 {
-        let white = unicode::white::is_white(c);
+        let white = white::is_white(c);
         t = Tally {
             run: more(t.run, true),
             yes: more(t.yes, white),

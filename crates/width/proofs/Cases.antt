@@ -2,7 +2,7 @@
 use mathlib.Core.Path.{_≡_, refl}
 use mathlib.Core.List.{List, [], _∷_, map}
 use Prim.Native.Nat.{ℕ}
-use Rattle.unicode.specs.White.{mem, whites, isWhite}
+use Rattle.white.specs.White.{mem, whites, isWhite}
 use Rattle.unicode.specs.Utf8.{table, allIn, lenBy, charLen}
 use Rattle.text.specs.Chars.{code, charsFrom}
 use Rattle.width.specs.Count.{dark, counted, placeFrom, placeOf}

@@ -12,12 +12,12 @@ use lib.ListN.{length, take, drop, getD, drop-of-length-le}
 use lib.Seq.{drop-cons}
 use borrow.Author.Tests.{ltb-true}
 use Rattle.text.specs.declared.chars.Char.{Char}
-use Rattle.unicode.specs.White.{mem, whites, isWhite}
+use Rattle.white.specs.White.{mem, whites, isWhite}
 use Rattle.unicode.specs.Utf8.{charLen, allPlain}
 use Rattle.text.specs.Chars.{charsFrom, chars, charAt}
 use Rattle.width.specs.Count.{dark, counted}
 use Rattle.width.specs.Walk.{PlainBlock, Tallied}
-use Rattle.unicode.proofs.Bools.{and-l, and-r, below-at}
+use Rattle.white.proofs.Bools.{and-l, and-r, below-at}
 use Rattle.text.proofs.CharLaws.{step-fits, step-pos, chars-next, chars-none, char-plain}
 
 pub at-most-one : (w : Bool) → boolByte w ≤ 1

@@ -7,7 +7,7 @@ use native.Mathlib.Omega.{arith}
 use lib.ListN.{length, drop, getD, length-drop, length-take, drop-of-length-le}
 use lib.Seq.{drop-cons, drop-drop}
 use Rattle.unicode.specs.Utf8.{charLen}
-use Rattle.unicode.specs.White.{isWhite}
+use Rattle.white.specs.White.{isWhite}
 use Rattle.unicode.proofs.RowLaws.{char-fits}
 use Rattle.text.specs.declared.chars.Char.{Char}
 use Rattle.text.specs.declared.span.Span.{Span}

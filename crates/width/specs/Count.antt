@@ -4,7 +4,7 @@ use mathlib.Core.Bool.{Bool, cond}
 use mathlib.Core.List.{List, [], _∷_}
 use lib.Dec.{ltb}
 use Rattle.unicode.specs.Utf8.{charLen}
-use Rattle.unicode.specs.White.{isWhite}
+use Rattle.white.specs.White.{isWhite}
 use Rattle.text.specs.declared.span.BytePos.{BytePos}
 use Rattle.text.specs.declared.span.Span.{Span}
 use Rattle.text.specs.Span.{textOf}

@@ -1,12 +1,12 @@
 // How many characters of a text are outside White_Space: runs of plain bytes by blocks, every other character by itself.
 use text::chars::char_at;
 use unicode::utf8::plain;
-use unicode::white::is_white;
+use white::is_white;
 ghost use mathlib.Core.Path.{_≡_};
 ghost use mathlib.Core.Bool.{true};
 ghost use Prim.Native.Nat.{_≤_, _<_};
 ghost use lib.ListN.{length};
-ghost use Rattle.unicode.specs.White.{isWhite};
+ghost use Rattle.white.specs.White.{isWhite};
 ghost use Rattle.unicode.specs.Utf8.{allPlain};
 ghost use Rattle.width.specs.Count.{dark, counted};
 ghost use Rattle.width.specs.Walk.{PlainBlock, Tallied};

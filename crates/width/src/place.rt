@@ -3,7 +3,7 @@ use text::chars::char_at;
 use text::span::BytePos;
 use text::span::Span;
 use text::span::part;
-use unicode::white::is_white;
+use white::is_white;
 ghost use mathlib.Core.Path.{_≡_};
 ghost use Rattle.width.specs.Count.{placeOf, placeIn};
 

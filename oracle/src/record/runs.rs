@@ -33,7 +33,7 @@ pub fn record(trim: Trim) -> Vec<u8> {
         "  at most: source {}, tree {}, buffer {}, step {}",
         largest.source, largest.tree, largest.cap, largest.step
     );
-    assert!(bytes.len() < 1_600_000, "the file grew too large");
+    assert!(bytes.len() < 2_200_000, "the file grew too large");
     // what the program that replays it has room for
     assert!(
         largest.tree <= 4_096 && largest.cap <= 8_192,

@@ -1,7 +1,7 @@
 -- `bench::bench_calls` meets its contract. The list's plan on a fresh engine. Assumes nothing.
 use Prim.Native.Nat.{ℕ}
 use lib.ListN.{replicate, length-replicate}
-use Rattle.queue.proofs.MadeLaws.{keeps}
+use Rattle.lent.proofs.MadeLaws.{keeps}
 use Rattle.bench.proofs.HistoryLaws.{replays}
 use borrow.Author.Needs.{needs}
 use Rattle.bench.proofs.bench_calls.Statement.{statement}

@@ -6,8 +6,8 @@ use lib.ListN.{replicate, length-replicate}
 use Rattle.tree.specs.declared.record.Record.{Record}
 use Rattle.tree.specs.Table.{treeOf}
 use Rattle.meaning.specs.State.{Script}
-use Rattle.queue.specs.View.{scriptOf}
-use Rattle.format.specs.Whole.{whole}
+use Rattle.lent.specs.View.{scriptOf}
+use Rattle.rules.specs.Whole.{whole}
 use Rattle.bench.specs.Repeated.{repeated}
 use Rattle.bench.proofs.HistoryLaws.{tree-is}
 use Rattle.bench.proofs.RepeatLaws.{Repeating, none-done, one-done, all-done}

@@ -6,7 +6,7 @@ use lib.ListN.{replicate, length-replicate}
 use Rattle.tree.specs.declared.record.Record.{Record}
 use Rattle.tree.specs.Table.{treeOf}
 use Rattle.meaning.specs.State.{Script}
-use Rattle.queue.specs.View.{scriptOf}
+use Rattle.lent.specs.View.{scriptOf}
 use Rattle.bench.specs.Repeated.{repeated, onNode}
 use Rattle.bench.proofs.HistoryLaws.{tree-is}
 use Rattle.bench.proofs.RepeatLaws.{Repeating, none-done, one-done, all-done}

@@ -42,7 +42,7 @@ use denote.Triple.Walked.{says, Stays, stay-ref, stay-none-slice, gave-slice, wa
 use denote.Triple.Clauses.{ensured, lasts, Lasts}
 use denote.Exit.{yes}
 use Rattle.meaning.specs.World.{Result}
-use Rattle.format.specs.Whole.{laidWhole}
+use Rattle.format.specs.Laid.{laidWhole}
 use Rattle.entry.specs.declared.state.Step.{Step}
 use Rattle.entry.specs.Served.{Served}
 use Rattle.meaning.proofs.answer.Answer as An

@@ -45,7 +45,7 @@ use Rattle.tree.specs.declared.record.RecordNo.{RecordNo}
 use Rattle.tree.proofs.record.RecordNo as No
 use Rattle.tree.proofs.record.RecordNo.Laws as No′
 use Rattle.meaning.specs.World.{Result}
-use Rattle.format.specs.Rules.{laidOut}
+use Rattle.format.specs.Laid.{laidOut}
 use Rattle.entry.specs.declared.state.Step.{Step}
 use Rattle.entry.specs.Served.{Served}
 use Rattle.meaning.proofs.answer.Answer as An

@@ -7,8 +7,8 @@ use crate::record::history::History;
 use crate::sx;
 
 const MOST: usize = 64;
-/// What is laid out deeper than this in lines is recorded at depth 64 alone.
-const SHORT: usize = 400;
+/// From 34 to 63 a form is recorded at every so manieth depth.
+const APART: usize = 7;
 
 /// Whole nodes, which stand with their deepest record at depth 64: a rule's own parts
 /// cost no more than their levels either. B is an empty block.
@@ -32,17 +32,16 @@ const NODES: &[&str] = &[
     r#"(block "{" (block_body (const_semi (item_const "X" "=" (expr (path "a"))))) "}")"#,
 ];
 
-/// Each form at depth 64, and at one depth from 34 on if what is laid out is short.
+/// Each form at depth 64, and at four or five depths from 34 on; at each of these nine forms or ten.
 pub fn all(all: &mut Vec<History>) {
     for tree in &at_depth(MOST) {
         assert_eq!(depth(tree), MOST, "{tree}");
         all.push(history("nests of 64", tree, vec![run_step(0)]));
     }
     for want in 34..MOST {
-        let trees = at_depth(want);
-        let some = trees.iter().skip(want % 30).step_by(30);
         let run = |tree: &String| history("nests", tree, vec![run_step(0)]);
-        all.extend(some.map(run).filter(|h| h.needs() < SHORT));
+        let trees = at_depth(want);
+        all.extend(trees.iter().skip(want % APART).step_by(APART).map(run));
     }
     for node in NODES {
         let tree = nest(FILLER, FILLER, FILLER, node, MOST);

@@ -1,5 +1,5 @@
 -- `bench::history::asked` meets its contract. The call, or refusal 12. Assumes nothing.
-use Rattle.queue.proofs.MadeLaws.{keeps}
+use Rattle.lent.proofs.MadeLaws.{keeps}
 use borrow.Author.Needs.{needs}
 use Rattle.bench.proofs.history.asked.Statement.{statement}
 use Rattle.bench.proofs.history.asked.Tie as tie

@@ -1,10 +1,10 @@
 -- `bench::history::replay` meets its contract. The invariant: from here on is as much as from the start. Assumes nothing.
 use Prim.Native.Nat.{_-_}
 use lib.ListN.{length}
-use Rattle.queue.specs.View.{scriptOf}
-use Rattle.queue.specs.Loans.{engine}
+use Rattle.lent.specs.View.{scriptOf}
+use Rattle.lent.specs.Loans.{engine}
 use Rattle.bench.proofs.HistoryLaws.{Going, few-bytes, going-end, going-more, going-none, some-bytes}
-use Rattle.queue.proofs.MadeLaws.{keeps}
+use Rattle.lent.proofs.MadeLaws.{keeps}
 use borrow.Author.Needs.{needs}
 use native.Mathlib.Omega.{arith}
 use Rattle.bench.proofs.history.replay.Statement.{statement}

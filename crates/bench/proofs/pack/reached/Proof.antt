@@ -2,7 +2,7 @@
 use mathlib.Core.Path.{sym, ap, _∙_}
 use Rattle.meaning.specs.declared.answer.Answer.{Answer}
 use Rattle.meaning.specs.Numbers.{seen}
-use Rattle.queue.specs.Words.{runOf}
+use Rattle.lent.specs.Words.{runOf}
 use Rattle.bench.specs.Packed.{packed}
 use Rattle.bench.proofs.PackLaws.{reached-refused, reached-done}
 use borrow.Author.Needs.{needs}

@@ -1,6 +1,6 @@
 -- `bodies::lines::before_line` meets its contract. Assumes nothing.
 use Rattle.steps.proofs.Rules.{needs}
-use Rattle.queue.proofs.MadeLaws.{_▹_}
+use Rattle.lent.proofs.MadeLaws.{_▹_}
 use Rattle.bodies.proofs.lines.before_line.Statement.{statement}
 use Rattle.bodies.proofs.lines.before_line.Tie as tie
 

@@ -1,9 +1,9 @@
 -- `entry::checks::any_outside` meets its contract. The invariant: the rest says what the whole says. Assumes nothing.
 use Rattle.text.proofs.Base.{_+_, _-_, _≤_, _∙_, _≡_, ap, sym, needs, arith}
 use Rattle.meaning.specs.Lent.{anyOutside}
-use Rattle.queue.specs.View.{queueOf}
+use Rattle.lent.specs.View.{queueOf}
 use Rattle.entry.proofs.{LentLaws.outside-here, LentLaws.outside-more, checks.any_outside.Statement.statement}
-use Rattle.queue.proofs.{RingLaws.ring-next, TabLaws.tab-all, TabLaws.tab-none}
+use Rattle.lent.proofs.{RingLaws.ring-next, TabLaws.tab-all, TabLaws.tab-none}
 use Rattle.entry.proofs.checks.any_outside.Tie as tie
 
 abbrev Inv-loop : tie.InvT-loop

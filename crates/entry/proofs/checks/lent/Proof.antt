@@ -1,6 +1,6 @@
 -- `entry::checks::lent` meets its contract. Each check in turn. Assumes nothing.
 use Rattle.text.proofs.Base.{_∙_, sym, needs}
-use Rattle.queue.proofs.StepLaws.{goes}
+use Rattle.lent.proofs.StopLaws.{goes}
 use Rattle.entry.proofs.LentLaws.{lent-deep, lent-good, lent-many, lent-outside, lent-past, lent-stopped}
 use Rattle.entry.proofs.checks.lent.Statement.{statement}
 use Rattle.entry.proofs.checks.lent.Tie as tie

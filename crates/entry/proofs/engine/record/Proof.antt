@@ -1,7 +1,7 @@
 -- `entry::engine::record` meets its contract. Assumes nothing.
 use Rattle.text.proofs.Base.{ℕ, needs}
 use lib.ListN.{replicate, length-replicate}
-use Rattle.queue.proofs.MadeLaws.{keeps}
+use Rattle.lent.proofs.MadeLaws.{keeps}
 use Rattle.entry.proofs.{RoomLaws.full-room, ServeLaws.serve-record, engine.record.Statement.statement}
 use Rattle.entry.proofs.engine.record.Tie as tie
 

@@ -1,7 +1,7 @@
 -- `entry::state::left` meets its contract. Assumes nothing.
 use Rattle.text.proofs.Base.{_∙_, sym, needs}
-use Rattle.queue.specs.Words.{runOf}
-use Rattle.queue.proofs.StepLaws.{goes}
+use Rattle.lent.specs.Words.{runOf}
+use Rattle.lent.proofs.StopLaws.{goes}
 use Rattle.entry.proofs.{ServeLaws.left-open, ServeLaws.left-stopped, state.left.Statement.statement}
 use Rattle.entry.proofs.state.left.Tie as tie
 
@@ -12,14 +12,12 @@ returns c =
 
 returns-2 : tie.Need-returns-2
 returns-2 c =
-    let at-finished = c .before .before .before in let at-indent = at-finished .before in let at-spaced = at-indent .before in
-    let at-use-lines = at-spaced .before in let at-lines = at-use-lines .before in let at-count = at-lines .before in let at-len = at-count .before in
-    let at-if1 = at-len .before in let at-stopped = at-if1 .before in let at-answer = at-stopped .before in let start = at-answer .before in
-    rw (at-answer .answer .ensures, at-len .len .ensures, at-count .count .ensures, at-lines .lines .ensures, at-use-lines .use-lines .ensures, at-spaced .spaced .ensures, at-indent .indent .ensures, at-finished .finished .ensures)
-    (left-open (start .args .s) (runOf (start .args .fmt .now)) (start .args .queue .now) _ (goes (at-stopped .stopped .ensures) (at-if1 .if1 .left)) (rw (c .before .before .head .ensures, c .before .count2 .ensures) at (c .tidy .ensures)))
+    let at-now-of = c .before .before .before in let at-if1 = at-now-of .before in let at-stopped = at-if1 .before in
+    let at-answer = at-stopped .before in let start = at-answer .before in
+    rw (at-answer .answer .ensures, at-now-of .now-of .ensures)
+    (left-open (start .args .s) (runOf (start .args .fmt .now)) (start .args .queue .now) _ (goes (at-stopped .stopped .ensures) (at-if1 .if1 .left)) (rw (c .before .before .head .ensures, c .before .count .ensures) at (c .tidy .ensures)))
 
 pub left-spec : {M : Type 1} → statement M
 left-spec =
     tie.close (tie.spec (λ c κs. search needs) (λ c κs. search needs) returns (λ c κs. search needs) (λ c κs. search needs) (λ c κs. search needs)
-    (λ c κs. search needs) (λ c κs. search needs) (λ c κs. search needs) (λ c κs. search needs) (λ c κs. search needs) (λ c κs. search needs)
     (λ c κs. search needs) returns-2)

@@ -1,6 +1,6 @@
 -- `format::ended::ended` meets its contract. Zeroed, or as it is. Assumes nothing.
 use Rattle.steps.proofs.Rules.{needs}
-use Rattle.queue.specs.Words.{runOf}
+use Rattle.lent.specs.Words.{runOf}
 use Rattle.format.proofs.{EndLaws.end-open, EndLaws.end-stopped, ended.ended.Statement.statement}
 use Rattle.format.proofs.ended.ended.Tie as tie
 

@@ -1,7 +1,7 @@
 -- `gaps::arms::close_arms` meets its contract. Assumes nothing.
 use Rattle.gaps.specs.Arms.{closeArms}
 use Rattle.steps.proofs.Rules.{if-not, if-so, needs, refl}
-use Rattle.queue.proofs.MadeLaws.{_▹_}
+use Rattle.lent.proofs.MadeLaws.{_▹_}
 use Rattle.gaps.proofs.arms.close_arms.Statement.{statement}
 use Rattle.gaps.proofs.arms.close_arms.Tie as tie
 

@@ -2,7 +2,7 @@
 use Rattle.gaps.specs.Blocks.{noBlock}
 use Rattle.steps.proofs.Rules.{byteOf, factsOf, if-not, if-so, ne-eqb, needs, nothing-made, refl}
 use Rattle.text.proofs.Base.{eq-eqb}
-use Rattle.queue.proofs.MadeLaws.{_▹_}
+use Rattle.lent.proofs.MadeLaws.{_▹_}
 use Rattle.gaps.proofs.blocks.no_block.Statement.{statement}
 use Rattle.gaps.proofs.blocks.no_block.Tie as tie
 

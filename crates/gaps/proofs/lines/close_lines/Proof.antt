@@ -1,7 +1,7 @@
 -- `gaps::lines::close_lines` meets its contract. Assumes nothing.
 use Rattle.gaps.specs.Lines.{closeLines}
 use Rattle.steps.proofs.Rules.{needs}
-use Rattle.queue.proofs.MadeLaws.{_▹_}
+use Rattle.lent.proofs.MadeLaws.{_▹_}
 use Rattle.gaps.proofs.lines.close_lines.Statement.{statement}
 use Rattle.gaps.proofs.lines.close_lines.Tie as tie
 

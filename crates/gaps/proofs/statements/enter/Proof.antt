@@ -1,7 +1,7 @@
 -- `gaps::statements::enter` meets its contract. Assumes nothing.
 use Rattle.gaps.specs.Statements.{enter}
 use Rattle.steps.proofs.Rules.{if-not, if-so, needs, refl}
-use Rattle.queue.proofs.MadeLaws.{_▹_}
+use Rattle.lent.proofs.MadeLaws.{_▹_}
 use Rattle.gaps.proofs.statements.enter.Statement.{statement}
 use Rattle.gaps.proofs.statements.enter.Tie as tie
 

@@ -6,11 +6,11 @@ use Rattle.gaps.proofs.statements.gap.Tie as tie
 
 returns : tie.Need-returns
 returns c =
-    let at-lines = c .before .before .before in let at-class-of2 = at-lines .before in let at-kind-of2 = at-class-of2 .before in
-    let at-class-of = at-kind-of2 .before in let at-kind-of = at-class-of .before in let at-if1 = at-kind-of .before .before .before .before in
-    gap-lines _ _ (at-if1 .if1 .taken) (at-kind-of .kind-of .ensures) (at-class-of .class-of .ensures) (at-kind-of2 .kind-of2 .ensures) (at-class-of2 .class-of2 .ensures) (at-lines .lines .ensures) (c .before .before .nl .ensures)
+    let at-lines = c .before .before .before in let at-class-at2 = at-lines .before in let at-class-at = at-class-at2 .before in
+    let at-if1 = at-class-at .before .before .before .before in
+    gap-lines _ _ (at-if1 .if1 .taken) (at-class-at .class-at .ensures) (at-class-at2 .class-at2 .ensures) (at-lines .lines .ensures) (c .before .before .nl .ensures)
 
 pub gap-spec : {M : Type 1} → statement M
 gap-spec =
-    tie.close (tie.spec (λ c κs. search needs) (λ c κs. search needs) (λ c κs. search needs) (λ c κs. search needs) (λ c κs. search needs)
+    tie.close (tie.spec (λ c κs. search needs) (λ c κs. search needs) (λ c κs. search needs)
     (λ c κs. search needs) (λ c. search needs) returns (λ c. gap-first _ (c .if1 .left)))

@@ -1,7 +1,7 @@
 -- `gaps::statements::leave` meets its contract. Assumes nothing.
 use Rattle.gaps.specs.Statements.{leave}
 use Rattle.steps.proofs.Rules.{if-not, if-so, needs, refl}
-use Rattle.queue.proofs.MadeLaws.{_▹_}
+use Rattle.lent.proofs.MadeLaws.{_▹_}
 use Rattle.gaps.proofs.statements.leave.Statement.{statement}
 use Rattle.gaps.proofs.statements.leave.Tie as tie
 

@@ -7,11 +7,8 @@ use Rattle.gaps.proofs.statements.semicolon.Tie as tie
 returns : tie.Need-returns
 returns c =
     let at-before-semi = c .before .before .before .before .before .before .before .before in
-    let at-take-remaining = at-before-semi .before .before .before .before in let at-needs-semi = at-take-remaining .before .before .before in
-    let at-kind-of = at-needs-semi .before in
-    semi-of _ _ (at-kind-of .kind-of .ensures) (at-needs-semi .needs-semi .ensures) (at-take-remaining .take-remaining .ensures) (at-before-semi .before-semi .ensures) (c .before .before .write-if .ensures)
+    let at-take-remaining = at-before-semi .before .before .before .before in let at-semi-at = at-take-remaining .before .before .before in
+    semi-of _ _ (at-semi-at .semi-at .ensures) (at-take-remaining .take-remaining .ensures) (at-before-semi .before-semi .ensures) (c .before .before .write-if .ensures)
 
 pub semicolon-spec : {M : Type 1} → statement M
-semicolon-spec =
-    tie.close (tie.spec (λ c κs. search needs) (λ c κs. search needs) (λ c κs. search needs) (λ c κs. search needs) (λ c κs. search needs)
-    (λ c. search needs) returns)
+semicolon-spec = tie.close (tie.spec (λ c κs. search needs) (λ c κs. search needs) (λ c κs. search needs) (λ c κs. search needs) (λ c. search needs) returns)

@@ -1,6 +1,6 @@
 -- `loose::chain::breaks_at` meets its contract. Assumes nothing.
 use Rattle.loose.proofs.ChainLaws.{breaks-dot, breaks-first, breaks-wide}
-use Rattle.queue.specs.View.{scriptOf}
+use Rattle.lent.specs.View.{scriptOf}
 use Rattle.text.proofs.Base.{needs}
 use Rattle.loose.proofs.chain.breaks_at.Statement.{statement}
 use Rattle.loose.proofs.chain.breaks_at.Tie as tie

@@ -1,6 +1,6 @@
 -- `loose::chain::chain_from` meets its contract. Assumes nothing.
 use Rattle.loose.proofs.ChainLaws.{chain-breaks, chain-fits, chain-headless}
-use Rattle.queue.specs.View.{scriptOf}
+use Rattle.lent.specs.View.{scriptOf}
 use Rattle.text.proofs.Base.{needs}
 use Rattle.loose.proofs.chain.chain_from.Statement.{statement}
 use Rattle.loose.proofs.chain.chain_from.Tie as tie

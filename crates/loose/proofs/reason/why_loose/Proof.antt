@@ -1,6 +1,6 @@
 -- `loose::reason::why_loose` meets its contract. Assumes nothing.
 use Rattle.loose.proofs.ReasonLaws.{by-crowd, too-wide}
-use Rattle.queue.specs.View.{scriptOf}
+use Rattle.lent.specs.View.{scriptOf}
 use Rattle.text.proofs.Base.{needs}
 use Rattle.loose.proofs.reason.why_loose.Statement.{statement}
 use Rattle.loose.proofs.reason.why_loose.Tie as tie

@@ -2,7 +2,7 @@
 use Rattle.parts.specs.Links.{breakLink}
 use Rattle.steps.proofs.Rules.{if-not, if-so, needs, nothing-made, refl}
 use Rattle.text.proofs.Base.{le-ltb, lt-ltb}
-use Rattle.queue.proofs.MadeLaws.{_▹_}
+use Rattle.lent.proofs.MadeLaws.{_▹_}
 use Rattle.parts.proofs.links.break_link.Statement.{statement}
 use Rattle.parts.proofs.links.break_link.Tie as tie
 

@@ -1,6 +1,6 @@
 -- `parts::spaced::eat_expr` meets its contract. Assumes nothing.
 use Rattle.steps.proofs.Rules.{arith, needs, streamAt, treeOf}
-use Rattle.steps.proofs.StreamLaws.{took-if, took-not}
+use Rattle.walk.proofs.StreamLaws.{took-if, took-not}
 use Rattle.parts.proofs.spaced.eat_expr.Statement.{statement}
 use Rattle.parts.proofs.spaced.eat_expr.Tie as tie
 

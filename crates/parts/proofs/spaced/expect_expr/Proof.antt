@@ -1,5 +1,5 @@
 -- `parts::spaced::expect_expr` meets its contract. Assumes nothing.
-use Rattle.steps.proofs.FlowLaws.{got-it, got-none}
+use Rattle.walk.proofs.FlowLaws.{got-it, got-none}
 use Rattle.steps.proofs.Rules.{needs}
 use Rattle.parts.proofs.spaced.expect_expr.Statement.{statement}
 use Rattle.parts.proofs.spaced.expect_expr.Tie as tie

@@ -1,7 +1,7 @@
 -- `paths::modifier::modifier` meets its contract. Assumes nothing.
 use Rattle.steps.proofs.Rules.{inl, inr, needs}
 use Rattle.paths.proofs.ModifierLaws.{as-word, as-in, as-error, as-other}
-use Rattle.queue.proofs.MadeLaws.{_▹_}
+use Rattle.lent.proofs.MadeLaws.{_▹_}
 use Rattle.paths.proofs.modifier.modifier.Statement.{statement}
 use Rattle.paths.proofs.modifier.modifier.Tie as tie
 

@@ -1,7 +1,8 @@
 -- `queue::collect::process_comments` meets its contract. The invariant: from here on is gathered what is gathered from the start. Assumes nothing.
 use Rattle.text.proofs.Base.{_≡_, ap, refl, _-_, length, needs, arith}
 use Rattle.tree.specs.Table.{treeOf}
-use Rattle.queue.specs.{Words.runOf, Run.collectedRun, View.asEntry, View.scriptOf}
+use Rattle.lent.specs.{Words.runOf, Run.collectedRun, View.scriptOf}
+use Rattle.queue.specs.{Met.asMet}
 use Rattle.queue.proofs.GatherLaws.{Gathering, gather-blank, gather-end, gather-full, gather-inner, gather-note, gather-start, gather-stop}
 use Rattle.queue.proofs.GatherLaws.{collected-full, collected-rest}
 use Rattle.queue.proofs.collect.process_comments.Statement.{statement}
@@ -20,47 +21,47 @@ loop-holds c =
 
 loop-again : tie.Need-loop-again Inv-loop μ-loop
 loop-again c =
-    let at-entry-of = c .before .before in let at-node = at-entry-of .before in let at-loop = at-node .before .before in (
+    let at-met-at = c .before .before in let at-node = at-met-at .before in let at-loop = at-node .before .before in (
       at-loop .loop .inv .0,
       at-loop .loop .inv .1,
       at-loop .loop .inv .2,
-      gather-inner (at-loop .loop .inv .3) (at-node .node .result) (at-entry-of .entry-of .result) (omega (arith, at-loop .loop .inv .0)) (at-node .node .ensures) (at-entry-of .entry-of .ensures)
-          (ap (asEntry (at-node .node .result .span)) (c .enum-told .given .1)),
+      gather-inner (at-loop .loop .inv .3) (at-node .node .result) (at-met-at .met-at .result) (omega (arith, at-loop .loop .inv .0)) (at-node .node .ensures) (at-met-at .met-at .ensures)
+          (ap (asMet (at-node .node .result .span)) (c .enum-told .given .1)),
     )
 
 loop-again-2 : tie.Need-loop-again-2 Inv-loop μ-loop
 loop-again-2 c =
-    let at-entry-of = c .before .before .before .before in let at-node = at-entry-of .before in let at-loop = at-node .before .before in (
+    let at-met-at = c .before .before .before .before in let at-node = at-met-at .before in let at-loop = at-node .before .before in (
       at-loop .loop .inv .0,
       at-loop .loop .inv .1,
       at-loop .loop .inv .2,
-      gather-blank (at-loop .loop .inv .3) (at-node .node .result) (at-entry-of .entry-of .result) (omega (arith, at-loop .loop .inv .0)) (at-node .node .ensures) (at-entry-of .entry-of .ensures)
-          _ _ (ap (asEntry (at-node .node .result .span)) (c .before .before .e .given .1)) (c .or-else .ensures),
+      gather-blank (at-loop .loop .inv .3) (at-node .node .result) (at-met-at .met-at .result) (omega (arith, at-loop .loop .inv .0)) (at-node .node .ensures) (at-met-at .met-at .ensures)
+          _ _ (ap (asMet (at-node .node .result .span)) (c .before .before .e .given .1)) (c .or-else .ensures),
     )
 
 returns : tie.Need-returns Inv-loop μ-loop
 returns c =
-    let at-e2 = c .before .before .before .before in let at-entry-of = at-e2 .before .before in let at-node = at-entry-of .before in
+    let at-e2 = c .before .before .before .before in let at-met-at = at-e2 .before .before in let at-node = at-met-at .before in
     let at-loop = at-node .before .before in
     collected-full (rw (at-loop .loop .inv .1) at (c .refused .ensures))
-    (gather-full (at-loop .loop .inv .3) (at-node .node .result) (at-entry-of .entry-of .result) (omega (arith, at-loop .loop .inv .0)) (at-node .node .ensures) (at-entry-of .entry-of .ensures) _ (ap (asEntry (at-node .node .result .span)) (at-e2 .e2 .given .1)) (c .before .before .if1 .taken) refl)
+    (gather-full (at-loop .loop .inv .3) (at-node .node .result) (at-met-at .met-at .result) (omega (arith, at-loop .loop .inv .0)) (at-node .node .ensures) (at-met-at .met-at .ensures) _ (ap (asMet (at-node .node .result .span)) (at-e2 .e2 .given .1)) (c .before .before .if1 .taken) refl)
 
 loop-again-3 : tie.Need-loop-again-3 Inv-loop μ-loop
 loop-again-3 c =
-    let at-if1 = c .before .before .before in let at-e2 = at-if1 .before .before in let at-entry-of = at-e2 .before .before in
-    let at-node = at-entry-of .before in let at-loop = at-node .before .before in (
+    let at-if1 = c .before .before .before in let at-e2 = at-if1 .before .before in let at-met-at = at-e2 .before .before in
+    let at-node = at-met-at .before in let at-loop = at-node .before .before in (
       at-loop .loop .inv .0,
       at-loop .loop .inv .1,
       at-loop .loop .inv .2,
-      gather-note (at-loop .loop .inv .3) (at-node .node .result) (at-entry-of .entry-of .result) (omega (arith, at-loop .loop .inv .0)) (at-node .node .ensures) (at-entry-of .entry-of .ensures)
-          _ _ (ap (asEntry (at-node .node .result .span)) (at-e2 .e2 .given .1)) (at-if1 .if1 .left) (rw (at-loop .loop .inv .2) at (c .push .ensures)),
+      gather-note (at-loop .loop .inv .3) (at-node .node .result) (at-met-at .met-at .result) (omega (arith, at-loop .loop .inv .0)) (at-node .node .ensures) (at-met-at .met-at .ensures)
+          _ _ (ap (asMet (at-node .node .result .span)) (at-e2 .e2 .given .1)) (at-if1 .if1 .left) (rw (at-loop .loop .inv .2) at (c .push .ensures)),
     )
 
 returns-2 : tie.Need-returns-2 Inv-loop μ-loop
 returns-2 c =
-    let at-entry-of = c .before .before .before .before in let at-node = at-entry-of .before in let at-loop = at-node .before .before in
+    let at-met-at = c .before .before .before .before in let at-node = at-met-at .before in let at-loop = at-node .before .before in
     collected-rest (rw (at-loop .loop .inv .1) at (c .collected .ensures))
-    (gather-stop (at-loop .loop .inv .3) (at-node .node .result) (at-entry-of .entry-of .result) (omega (arith, at-loop .loop .inv .0)) (at-node .node .ensures) (at-entry-of .entry-of .ensures) (ap (asEntry (at-node .node .result .span)) (c .before .before .enum-told2 .given .1)) (rw (at-loop .loop .inv .1) at (c .collected .ensures)))
+    (gather-stop (at-loop .loop .inv .3) (at-node .node .result) (at-met-at .met-at .result) (omega (arith, at-loop .loop .inv .0)) (at-node .node .ensures) (at-met-at .met-at .ensures) (ap (asMet (at-node .node .result .span)) (c .before .before .enum-told2 .given .1)) (rw (at-loop .loop .inv .1) at (c .collected .ensures)))
 
 returns-3 : tie.Need-returns-3 Inv-loop μ-loop
 returns-3 c =

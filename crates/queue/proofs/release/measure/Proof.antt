@@ -1,8 +1,9 @@
 -- `queue::release::measure` meets its contract. The invariant: what is counted and reached, and what is still to go, make up the whole. Assumes nothing.
 use Rattle.text.proofs.Base.{_∙_, sym, _+_, _-_, _≤_, needs, arith}
-use Rattle.queue.specs.View.{queueOf}
+use Rattle.lent.specs.View.{queueOf}
 use Rattle.queue.proofs.{PassLaws.Measuring, PassLaws.measure-end, PassLaws.measure-full, PassLaws.measure-over, PassLaws.measure-start}
-use Rattle.queue.proofs.{PassLaws.measure-stop, PassLaws.measure-turn, PassLaws.put-of, RingLaws.ring-next, TabLaws.tab-all, TabLaws.tab-none}
+use Rattle.lent.proofs.{RingLaws.ring-next, TabLaws.tab-all, TabLaws.tab-none}
+use Rattle.queue.proofs.{PassLaws.measure-stop, PassLaws.measure-turn, PassLaws.put-of}
 use Rattle.queue.proofs.{release.measure.Statement.statement}
 use Rattle.queue.proofs.release.measure.Tie as tie
 

@@ -1,7 +1,8 @@
 -- `queue::release::release_waiting` meets its contract. Assumes nothing.
 use Rattle.text.proofs.Base.{_∙_, refl, sym, needs, arith}
-use Rattle.queue.specs.Words.{runOf}
-use Rattle.queue.proofs.{StepLaws.goes, StepLaws.stopped-steps, ReleaseLaws.release-done, ReleaseLaws.release-few, ReleaseLaws.release-over}
+use Rattle.lent.specs.Words.{runOf}
+use Rattle.lent.proofs.{StopLaws.goes}
+use Rattle.queue.proofs.{StepLaws.stopped-steps, ReleaseLaws.release-done, ReleaseLaws.release-few, ReleaseLaws.release-over}
 use Rattle.queue.proofs.{ReleaseLaws.release-past, ReleaseLaws.release-room, release.release_waiting.Statement.statement}
 use Rattle.queue.proofs.release.release_waiting.Tie as tie
 

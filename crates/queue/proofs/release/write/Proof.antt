@@ -1,8 +1,9 @@
 -- `queue::release::write` meets its contract. The invariant: what is written, and what is still to write, make up the whole. Assumes nothing.
 use Rattle.text.proofs.Base.{_+_, _-_, _≤_, needs, arith}
-use Rattle.queue.specs.View.{queueOf}
+use Rattle.lent.specs.View.{queueOf}
 use Rattle.queue.proofs.{PassLaws.Writing, PassLaws.put-of, PassLaws.write-end, PassLaws.write-room, PassLaws.write-start, PassLaws.write-turn}
-use Rattle.queue.proofs.{RingLaws.ring-next, TabLaws.tab-all, TabLaws.tab-none, release.write.Statement.statement}
+use Rattle.lent.proofs.{RingLaws.ring-next, TabLaws.tab-all, TabLaws.tab-none}
+use Rattle.queue.proofs.{release.write.Statement.statement}
 use Rattle.queue.proofs.release.write.Tie as tie
 
 abbrev Inv-loop : tie.InvT-loop

@@ -1,7 +1,7 @@
 -- `steps::remaining::once` meets its contract. Assumes nothing.
 use Rattle.text.proofs.Base.{needs}
 use Rattle.tree.specs.Table.{treeOf}
-use Rattle.steps.specs.Stream.{streamAt}
+use Rattle.walk.specs.Stream.{streamAt}
 use Rattle.steps.proofs.{RestLaws.second-is, RestLaws.second-none, remaining.once.Statement.statement}
 use Rattle.steps.proofs.remaining.once.Tie as tie
 

@@ -1,7 +1,7 @@
 -- `steps::remaining::take_remaining` meets its contract. Assumes nothing.
 use Rattle.text.proofs.Base.{needs}
 use Rattle.tree.specs.Table.{treeOf}
-use Rattle.steps.specs.Stream.{streamAt}
+use Rattle.walk.specs.Stream.{streamAt}
 use Rattle.steps.proofs.{RestLaws.rests-at, RestLaws.rests-none, remaining.take_remaining.Statement.statement}
 use Rattle.steps.proofs.remaining.take_remaining.Tie as tie
 

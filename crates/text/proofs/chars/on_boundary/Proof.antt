@@ -1,6 +1,6 @@
 -- `text::chars::on_boundary` meets its contract. Assumes nothing.
 use Rattle.text.proofs.CharLaws.{starts-in, starts-out}
-use Rattle.unicode.proofs.Bools.{high}
+use Rattle.white.proofs.Bools.{high}
 use borrow.Author.Tests.{le-leb, lt-leb}
 use lib.ListN.{getD}
 use mathlib.Core.Path.{_∙_, sym}

@@ -1,5 +1,5 @@
 -- `unicode::utf8::char_len` meets its contract. Assumes nothing.
-use Rattle.unicode.proofs.Bools.{high}
+use Rattle.white.proofs.Bools.{high}
 use Rattle.unicode.proofs.RowLaws.{char-none, char-one}
 use mathlib.Core.Path.{sym}
 use borrow.Author.Needs.{needs}

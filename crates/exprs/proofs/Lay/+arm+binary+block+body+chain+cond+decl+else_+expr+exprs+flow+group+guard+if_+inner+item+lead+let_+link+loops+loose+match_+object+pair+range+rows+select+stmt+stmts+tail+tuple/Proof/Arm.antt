@@ -10,10 +10,10 @@ use Rattle.exprs.proofs.Lay.guard.Reads as guard-reads
 use Rattle.parts.proofs.args.arm_pat.Reads as arm-pat-reads
 use Rattle.parts.proofs.args.guard_kind.Reads as guard-kind-reads
 use Rattle.parts.proofs.spaced.between.Reads as between-reads
-use Rattle.queue.proofs.formatter.refuse.Reads as refuse-reads
-use Rattle.steps.proofs.stream.left_over.Reads as left-over-reads
-use Rattle.steps.proofs.stream.pump.Reads as pump-reads
-use Rattle.steps.proofs.stream.records_of.Reads as records-of-reads
+use Rattle.lent.proofs.formatter.refuse.Reads as refuse-reads
+use Rattle.walk.proofs.stream.left_over.Reads as left-over-reads
+use Rattle.walk.proofs.stream.pump.Reads as pump-reads
+use Rattle.walk.proofs.stream.records_of.Reads as records-of-reads
 use Rattle.exprs.proofs.Lay.+arm+binary+block+body+chain+cond+decl+else_+expr+exprs+flow+group+guard+if_+inner+item+lead+let_+link+loops+loose+match_+object+pair+range+rows+select+stmt+stmts+tail+tuple.Lts-arm as lts
 
 module _ (t : ℕ) where

@@ -11,10 +11,10 @@ use Rattle.exprs.proofs.Ranks.{node-at, node-below, μ-binary, μ-inner
 use Rattle.exprs.proofs.Lay.binary.Reads as binary-reads
 use Rattle.exprs.proofs.Lay.inner.Reads as inner-reads
 use Rattle.parts.proofs.spaced.between.Reads as between-reads
-use Rattle.steps.proofs.stream.left_over.Reads as left-over-reads
-use Rattle.steps.proofs.stream.next_is.Reads as next-is-reads
-use Rattle.steps.proofs.stream.pump.Reads as pump-reads
-use Rattle.steps.proofs.stream.records_of.Reads as records-of-reads
+use Rattle.walk.proofs.stream.left_over.Reads as left-over-reads
+use Rattle.walk.proofs.stream.next_is.Reads as next-is-reads
+use Rattle.walk.proofs.stream.pump.Reads as pump-reads
+use Rattle.walk.proofs.stream.records_of.Reads as records-of-reads
 use Rattle.exprs.proofs.Lay.+arm+binary+block+body+chain+cond+decl+else_+expr+exprs+flow+group+guard+if_+inner+item+lead+let_+link+loops+loose+match_+object+pair+range+rows+select+stmt+stmts+tail+tuple.Lts-binary as lts
 
 abbrev Inv-loop : lts.InvT-loop

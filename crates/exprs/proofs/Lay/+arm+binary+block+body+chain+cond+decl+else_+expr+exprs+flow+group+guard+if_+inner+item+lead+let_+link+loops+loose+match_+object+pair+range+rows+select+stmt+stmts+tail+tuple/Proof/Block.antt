@@ -6,11 +6,11 @@ use Rattle.steps.proofs.Rules.{_▹_, arith, byteOf, expected, factsOf, keeps, 
 use Rattle.exprs.proofs.Ranks.{flag-at, flag-below, μ-block, μ-body}
 use Rattle.exprs.proofs.Lay.block.Reads as block-reads
 use Rattle.exprs.proofs.Lay.body.Reads as body-reads
-use Rattle.queue.proofs.formatter.refuse.Reads as refuse-reads
-use Rattle.steps.proofs.stream.expect.Reads as expect-reads
-use Rattle.steps.proofs.stream.left_over.Reads as left-over-reads
-use Rattle.steps.proofs.stream.records_of.Reads as records-of-reads
-use Rattle.steps.proofs.tokens.token.Reads as token-reads
+use Rattle.lent.proofs.formatter.refuse.Reads as refuse-reads
+use Rattle.walk.proofs.stream.expect.Reads as expect-reads
+use Rattle.walk.proofs.stream.left_over.Reads as left-over-reads
+use Rattle.walk.proofs.stream.records_of.Reads as records-of-reads
+use Rattle.walk.proofs.tokens.token.Reads as token-reads
 use Rattle.exprs.proofs.Lay.+arm+binary+block+body+chain+cond+decl+else_+expr+exprs+flow+group+guard+if_+inner+item+lead+let_+link+loops+loose+match_+object+pair+range+rows+select+stmt+stmts+tail+tuple.Lts-block as lts
 
 module _ (t : ℕ) where

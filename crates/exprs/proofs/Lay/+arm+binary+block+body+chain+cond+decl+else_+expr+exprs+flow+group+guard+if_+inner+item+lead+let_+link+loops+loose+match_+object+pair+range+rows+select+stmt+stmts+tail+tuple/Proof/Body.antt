@@ -9,9 +9,9 @@ use Rattle.exprs.proofs.Lay.stmts.Reads as stmts-reads
 use Rattle.gaps.proofs.statements.enter.Reads as enter-reads
 use Rattle.gaps.proofs.statements.is_spread.Reads as is-spread-reads
 use Rattle.gaps.proofs.statements.leave.Reads as leave-reads
-use Rattle.queue.proofs.formatter.refuse.Reads as refuse-reads
-use Rattle.steps.proofs.stream.left_over.Reads as left-over-reads
-use Rattle.steps.proofs.stream.records_of.Reads as records-of-reads
+use Rattle.lent.proofs.formatter.refuse.Reads as refuse-reads
+use Rattle.walk.proofs.stream.left_over.Reads as left-over-reads
+use Rattle.walk.proofs.stream.records_of.Reads as records-of-reads
 use Rattle.exprs.proofs.Lay.+arm+binary+block+body+chain+cond+decl+else_+expr+exprs+flow+group+guard+if_+inner+item+lead+let_+link+loops+loose+match_+object+pair+range+rows+select+stmt+stmts+tail+tuple.Lts-body as lts
 
 module _ (t : ℕ) where

@@ -10,10 +10,10 @@ use Rattle.exprs.proofs.Lay.link.Reads as link-reads
 use Rattle.loose.proofs.chain.chain_from.Reads as chain-from-reads
 use Rattle.parts.proofs.links.break_link.Reads as break-link-reads
 use Rattle.parts.proofs.links.end_chain.Reads as end-chain-reads
-use Rattle.steps.proofs.stream.has_next.Reads as has-next-reads
-use Rattle.steps.proofs.stream.left_over.Reads as left-over-reads
-use Rattle.steps.proofs.stream.pump.Reads as pump-reads
-use Rattle.steps.proofs.stream.records_of.Reads as records-of-reads
+use Rattle.walk.proofs.stream.has_next.Reads as has-next-reads
+use Rattle.walk.proofs.stream.left_over.Reads as left-over-reads
+use Rattle.walk.proofs.stream.pump.Reads as pump-reads
+use Rattle.walk.proofs.stream.records_of.Reads as records-of-reads
 use Rattle.exprs.proofs.Lay.+arm+binary+block+body+chain+cond+decl+else_+expr+exprs+flow+group+guard+if_+inner+item+lead+let_+link+loops+loose+match_+object+pair+range+rows+select+stmt+stmts+tail+tuple.Lts-chain as lts
 
 abbrev Inv-loop : lts.InvT-loop

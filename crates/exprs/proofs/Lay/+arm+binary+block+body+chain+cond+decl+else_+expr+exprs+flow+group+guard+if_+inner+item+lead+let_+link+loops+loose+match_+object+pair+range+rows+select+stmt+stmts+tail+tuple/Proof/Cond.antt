@@ -6,11 +6,11 @@ use Rattle.exprs.proofs.Ranks.{flag-below, word-at, μ-cond, μ-expr, �
 use Rattle.exprs.proofs.Lay.cond.Reads as cond-reads
 use Rattle.exprs.proofs.Lay.expr.Reads as expr-reads
 use Rattle.exprs.proofs.Lay.let_.Reads as let--reads
-use Rattle.output.proofs.calls.ws.Reads as ws-reads
+use Rattle.calls.proofs.ws.Reads as ws-reads
 use Rattle.parts.proofs.spaced.expect_expr.Reads as expect-expr-reads
 use Rattle.parts.proofs.spaced.word.Reads as word-reads
-use Rattle.steps.proofs.stream.next_is.Reads as next-is-reads
-use Rattle.steps.proofs.stream.pump.Reads as pump-reads
+use Rattle.walk.proofs.stream.next_is.Reads as next-is-reads
+use Rattle.walk.proofs.stream.pump.Reads as pump-reads
 use Rattle.exprs.proofs.Lay.+arm+binary+block+body+chain+cond+decl+else_+expr+exprs+flow+group+guard+if_+inner+item+lead+let_+link+loops+loose+match_+object+pair+range+rows+select+stmt+stmts+tail+tuple.Lts-cond as lts
 
 module _ (t : ℕ) where

@@ -14,11 +14,11 @@ use Rattle.parts.proofs.heads.item_head.Reads as item-head-reads
 use Rattle.parts.proofs.lone.no_item.Reads as no-item-reads
 use Rattle.parts.proofs.sorts.is_decl.Reads as is-decl-reads
 use Rattle.paths.proofs.modifier.modifiers.Reads as modifiers-reads
-use Rattle.queue.proofs.formatter.refuse.Reads as refuse-reads
-use Rattle.steps.proofs.stream.expect.Reads as expect-reads
-use Rattle.steps.proofs.stream.left_over.Reads as left-over-reads
-use Rattle.steps.proofs.stream.pump.Reads as pump-reads
-use Rattle.steps.proofs.stream.records_of.Reads as records-of-reads
+use Rattle.lent.proofs.formatter.refuse.Reads as refuse-reads
+use Rattle.walk.proofs.stream.expect.Reads as expect-reads
+use Rattle.walk.proofs.stream.left_over.Reads as left-over-reads
+use Rattle.walk.proofs.stream.pump.Reads as pump-reads
+use Rattle.walk.proofs.stream.records_of.Reads as records-of-reads
 use Rattle.tree.proofs.table.kind_at.Reads as kind-at-reads
 use Rattle.exprs.proofs.Lay.+arm+binary+block+body+chain+cond+decl+else_+expr+exprs+flow+group+guard+if_+inner+item+lead+let_+link+loops+loose+match_+object+pair+range+rows+select+stmt+stmts+tail+tuple.Lts-decl as lts
 

@@ -7,12 +7,12 @@ use Rattle.exprs.proofs.Ranks.{flag-below, node-at, word-below, μ-bloc
 use Rattle.exprs.proofs.Lay.block.Reads as block-reads
 use Rattle.exprs.proofs.Lay.cond.Reads as cond-reads
 use Rattle.exprs.proofs.Lay.else_.Reads as else--reads
-use Rattle.output.proofs.calls.write_owned.Reads as write-owned-reads
+use Rattle.calls.proofs.write_owned.Reads as write-owned-reads
 use Rattle.parts.proofs.spaced.between.Reads as between-reads
-use Rattle.queue.proofs.formatter.refuse.Reads as refuse-reads
-use Rattle.steps.proofs.stream.expect.Reads as expect-reads
-use Rattle.steps.proofs.stream.left_over.Reads as left-over-reads
-use Rattle.steps.proofs.stream.records_of.Reads as records-of-reads
+use Rattle.lent.proofs.formatter.refuse.Reads as refuse-reads
+use Rattle.walk.proofs.stream.expect.Reads as expect-reads
+use Rattle.walk.proofs.stream.left_over.Reads as left-over-reads
+use Rattle.walk.proofs.stream.records_of.Reads as records-of-reads
 use Rattle.tree.proofs.table.kind_at.Reads as kind-at-reads
 use Rattle.exprs.proofs.Lay.+arm+binary+block+body+chain+cond+decl+else_+expr+exprs+flow+group+guard+if_+inner+item+lead+let_+link+loops+loose+match_+object+pair+range+rows+select+stmt+stmts+tail+tuple.Lts-else_ as lts
 

@@ -6,12 +6,12 @@ use Rattle.steps.proofs.Rules.{_▹_, arith, keeps, needs, parsed, pumped, stea
 use Rattle.exprs.proofs.Ranks.{flag-at, node-below, μ-expr, μ-inner}
 use Rattle.exprs.proofs.Lay.expr.Reads as expr-reads
 use Rattle.exprs.proofs.Lay.inner.Reads as inner-reads
-use Rattle.output.proofs.calls.comments.Reads as comments-reads
+use Rattle.calls.proofs.comments.Reads as comments-reads
 use Rattle.parts.proofs.labels.before_expr.Reads as before-expr-reads
-use Rattle.queue.proofs.formatter.refuse.Reads as refuse-reads
-use Rattle.steps.proofs.stream.left_over.Reads as left-over-reads
-use Rattle.steps.proofs.stream.pump.Reads as pump-reads
-use Rattle.steps.proofs.stream.records_of.Reads as records-of-reads
+use Rattle.lent.proofs.formatter.refuse.Reads as refuse-reads
+use Rattle.walk.proofs.stream.left_over.Reads as left-over-reads
+use Rattle.walk.proofs.stream.pump.Reads as pump-reads
+use Rattle.walk.proofs.stream.records_of.Reads as records-of-reads
 use Rattle.exprs.proofs.Lay.+arm+binary+block+body+chain+cond+decl+else_+expr+exprs+flow+group+guard+if_+inner+item+lead+let_+link+loops+loose+match_+object+pair+range+rows+select+stmt+stmts+tail+tuple.Lts-expr as lts
 
 module _ (t : ℕ) where

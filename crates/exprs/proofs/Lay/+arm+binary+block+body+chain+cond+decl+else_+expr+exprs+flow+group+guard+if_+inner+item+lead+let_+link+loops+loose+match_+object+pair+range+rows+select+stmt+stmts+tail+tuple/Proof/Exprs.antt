@@ -11,25 +11,24 @@ use Rattle.exprs.proofs.Ranks.{flag-below, list-at, step-below, μ-expr
 use Rattle.exprs.proofs.Lay.expr.Reads as expr-reads
 use Rattle.exprs.proofs.Lay.exprs.Reads as exprs-reads
 use Rattle.exprs.proofs.Lay.loose.Reads as loose-reads
-use Rattle.loose.proofs.reason.is_loose.Reads as is-loose-reads
-use Rattle.loose.proofs.reason.why_loose.Reads as why-loose-reads
+use Rattle.loose.proofs.reason.goes_loose.Reads as goes-loose-reads
 use Rattle.parts.proofs.spaced.next_expr.Reads as next-expr-reads
 use Rattle.steps.proofs.items.before_item.Reads as before-item-reads
 use Rattle.steps.proofs.items.behind_item.Reads as behind-item-reads
 use Rattle.steps.proofs.items.close_list.Reads as close-list-reads
 use Rattle.steps.proofs.remaining.fresh.Reads as fresh-reads
-use Rattle.steps.proofs.stream.left_over.Reads as left-over-reads
-use Rattle.steps.proofs.stream.pump.Reads as pump-reads
-use Rattle.steps.proofs.stream.records_of.Reads as records-of-reads
-use Rattle.steps.proofs.tokens.token.Reads as token-reads
+use Rattle.walk.proofs.stream.left_over.Reads as left-over-reads
+use Rattle.walk.proofs.stream.pump.Reads as pump-reads
+use Rattle.walk.proofs.stream.records_of.Reads as records-of-reads
+use Rattle.walk.proofs.tokens.token.Reads as token-reads
 use Rattle.tree.proofs.cursor.children_of.Reads as children-of-reads
 use Rattle.exprs.proofs.Lay.+arm+binary+block+body+chain+cond+decl+else_+expr+exprs+flow+group+guard+if_+inner+item+lead+let_+link+loops+loose+match_+object+pair+range+rows+select+stmt+stmts+tail+tuple.Lts-exprs as lts
 
 abbrev Inv-loop : lts.InvT-loop
-Inv-loop src table fmt₀ queue₀ out₀ opening closing depth p₀ comma₀ fmt queue out p comma = let x = scriptOf src table in Listing x (isExpr (x .tree)) (turn (x .tree) (listed (lay x depth Rule.Expr)) suffix) (streamAt (x .tree) p₀) (engine fmt₀ queue₀ out₀) (streamAt (x .tree) p) (engine fmt queue out) (remainingOf Comma comma)
+Inv-loop src table fmt₀ queue₀ out₀ opening closing depth p₀ loose comma₀ fmt queue out p comma = let x = scriptOf src table in Listing x (isExpr (x .tree)) (turn (x .tree) (listed (lay x depth Rule.Expr)) suffix) (streamAt (x .tree) p₀) (engine fmt₀ queue₀ out₀) (streamAt (x .tree) p) (engine fmt queue out) (remainingOf Comma comma)
 
 abbrev μ-loop : lts.MeasureT-loop
-μ-loop src table fmt₀ queue₀ out₀ opening closing depth p₀ comma₀ fmt queue out p comma = length (streamAt (treeOf table) p .left)
+μ-loop src table fmt₀ queue₀ out₀ opening closing depth p₀ loose comma₀ fmt queue out p comma = length (streamAt (treeOf table) p .left)
 
 module _ (t : ℕ) where
   abbrev claims : lts.Claims
@@ -38,12 +37,10 @@ module _ (t : ℕ) where
     records-of-reads.Learnt,
     children-of-reads.Asked,
     children-of-reads.Learnt,
-    why-loose-reads.Asked,
-    why-loose-reads.Learnt,
+    goes-loose-reads.Asked,
+    goes-loose-reads.Learnt,
     token-reads.Asked,
     token-reads.Learnt,
-    is-loose-reads.Asked,
-    is-loose-reads.Learnt,
     step-below μ-loose loose-reads.Pre t,
     loose-reads.Post,
     left-over-reads.Asked,
@@ -66,20 +63,20 @@ module _ (t : ℕ) where
 
   loose-requires : lts.Need-loose-requires claims (list-at μ-exprs exprs-reads.Pre t) exprs-reads.Post Inv-loop μ-loop
   loose-requires c κs =
-      let start = c .before .before .before .before .before .before .before .before .before .before .before .before .before .before .before .before .before .before .before in
+      let start = c .before .before .before .before .before .before .before .before .before .before .before .before .before .before .before .before .before .before in
       (omega (arith, start .pre .0), search needs)
 
   returns : lts.Need-returns claims (list-at μ-exprs exprs-reads.Pre t) exprs-reads.Post Inv-loop μ-loop
   returns c =
       let at-token2 = c .before .before .before .before .before in let at-loose = at-token2 .before .before .before .before .before .before .before in
-      let at-if1 = at-loose .before .before .before .before .before in let at-is-loose = at-if1 .before in
-      let at-token = at-is-loose .before .before .before in let at-why-loose = at-token .before .before .before .before .before in
-      let at-children-of = at-why-loose .before in let at-records-of = at-children-of .before in
-      parsed _ _ (at-records-of .records-of .ensures) (exprs-of _ (at-records-of .records-of .ensures) (at-is-loose .is-loose .ensures) _ _ (at-children-of .children-of .ensures) (at-why-loose .why-loose .ensures) (at-token .token .ensures ▹ step-so _ _ refl (at-if1 .if1 .taken) (at-loose .loose .ensures) ▹ at-token2 .token2 .ensures)) (c .left-over .ensures)
+      let at-if1 = at-loose .before .before .before .before .before in let at-token = at-if1 .before .before .before in
+      let at-goes-loose = at-token .before .before .before .before .before in
+      let at-children-of = at-goes-loose .before in let at-records-of = at-children-of .before in
+      parsed _ _ (at-records-of .records-of .ensures) (exprs-of _ (at-records-of .records-of .ensures) _ _ (at-children-of .children-of .ensures) (at-goes-loose .goes-loose .ensures) (at-token .token .ensures ▹ step-so _ _ refl (at-if1 .if1 .taken) (at-loose .loose .ensures) ▹ at-token2 .token2 .ensures)) (c .left-over .ensures)
 
   expr-requires : lts.Need-expr-requires claims (list-at μ-exprs exprs-reads.Pre t) exprs-reads.Post Inv-loop μ-loop
   expr-requires c κs =
-      let start = c .before .before .before .before .before .before .before .before .before .before .before .before .before .before .before .before .before .before .before .before .before .before .before .before .before .before .before .before .before .before .before .before in
+      let start = c .before .before .before .before .before .before .before .before .before .before .before .before .before .before .before .before .before .before .before .before .before .before .before .before .before .before .before .before .before .before .before in
       (omega (arith, start .pre .0), search needs)
 
   loop-less : lts.Need-loop-less claims (list-at μ-exprs exprs-reads.Pre t) exprs-reads.Post Inv-loop μ-loop
@@ -104,14 +101,14 @@ module _ (t : ℕ) where
       let at-token3 = c .before .before .before .before .before in
       let at-close-list = at-token3 .before .before .before .before .before .before .before in
       let at-if2 = at-close-list .before .before .before .before in let at-next-expr = at-if2 .before in let at-loop = at-next-expr .before .before in
-      let at-if1 = at-loop .before .before in let at-is-loose = at-if1 .before in let at-token = at-is-loose .before .before .before in
-      let at-why-loose = at-token .before .before .before .before .before in let at-children-of = at-why-loose .before in
+      let at-if1 = at-loop .before .before in let at-token = at-if1 .before .before .before in
+      let at-goes-loose = at-token .before .before .before .before .before in let at-children-of = at-goes-loose .before in
       let at-records-of = at-children-of .before in
-      parsed _ _ (at-records-of .records-of .ensures) (exprs-of _ (at-records-of .records-of .ensures) (at-is-loose .is-loose .ensures) _ _ (at-children-of .children-of .ensures) (at-why-loose .why-loose .ensures) (at-token .token .ensures ▹ step-not _ _ refl (at-if1 .if1 .left) (listed-all _ _ (at-next-expr .next-expr .ensures) (at-if2 .if2 .left) (at-loop .loop .inv) (at-close-list .close-list .ensures)) ▹ at-token3 .token3 .ensures)) (c .left-over2 .ensures)
+      parsed _ _ (at-records-of .records-of .ensures) (exprs-of _ (at-records-of .records-of .ensures) _ _ (at-children-of .children-of .ensures) (at-goes-loose .goes-loose .ensures) (at-token .token .ensures ▹ step-not _ _ refl (at-if1 .if1 .left) (listed-all _ _ (at-next-expr .next-expr .ensures) (at-if2 .if2 .left) (at-loop .loop .inv) (at-close-list .close-list .ensures)) ▹ at-token3 .token3 .ensures)) (c .left-over2 .ensures)
 
   pub closed : {M : Type 1} → lts.Closed claims (list-at μ-exprs exprs-reads.Pre t) exprs-reads.Post M
   closed =
-      lts.spec claims (list-at μ-exprs exprs-reads.Pre t) exprs-reads.Post Inv-loop μ-loop (λ c κs. search needs) (λ c κs. search needs)
+      lts.spec claims (list-at μ-exprs exprs-reads.Pre t) exprs-reads.Post Inv-loop μ-loop (λ c κs. search needs)
       (λ c κs. search needs) (λ c κs. search needs) (λ c κs. search needs) loose-requires (λ c κs. search needs) (λ c κs. search needs)
       (λ c. keeps (returns c)) returns (λ c κs. search needs) (λ c. no-item _ (c .fresh .ensures)) (λ c κs. search needs) (λ c κs. search needs)
       (λ c κs. search needs) expr-requires (λ c κs. search needs) loop-less loop-again (λ c κs. search needs) (λ c κs. search needs)

@@ -18,8 +18,8 @@ use Rattle.parts.proofs.sorts.is_loop.Reads as is-loop-reads
 use Rattle.parts.proofs.sorts.is_range.Reads as is-range-reads
 use Rattle.parts.proofs.spaced.between.Reads as between-reads
 use Rattle.parts.proofs.spaced.expect_expr.Reads as expect-expr-reads
-use Rattle.steps.proofs.stream.left_over.Reads as left-over-reads
-use Rattle.steps.proofs.stream.records_of.Reads as records-of-reads
+use Rattle.walk.proofs.stream.left_over.Reads as left-over-reads
+use Rattle.walk.proofs.stream.records_of.Reads as records-of-reads
 use Rattle.exprs.proofs.Lay.+arm+binary+block+body+chain+cond+decl+else_+expr+exprs+flow+group+guard+if_+inner+item+lead+let_+link+loops+loose+match_+object+pair+range+rows+select+stmt+stmts+tail+tuple.Lts-flow as lts
 
 module _ (t : ℕ) where

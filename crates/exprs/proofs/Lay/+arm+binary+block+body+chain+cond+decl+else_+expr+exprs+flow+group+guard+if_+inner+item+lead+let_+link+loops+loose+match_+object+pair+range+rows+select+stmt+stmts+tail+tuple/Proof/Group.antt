@@ -5,11 +5,11 @@ use Rattle.exprs.proofs.Ranks.{flag-at, flag-below, μ-expr, μ-group}
 use Rattle.exprs.proofs.Lay.expr.Reads as expr-reads
 use Rattle.exprs.proofs.Lay.group.Reads as group-reads
 use Rattle.gaps.proofs.statements.group_end.Reads as group-end-reads
-use Rattle.output.proofs.calls.comments.Reads as comments-reads
+use Rattle.calls.proofs.comments.Reads as comments-reads
 use Rattle.parts.proofs.spaced.next_expr.Reads as next-expr-reads
-use Rattle.steps.proofs.stream.left_over.Reads as left-over-reads
-use Rattle.steps.proofs.stream.pump.Reads as pump-reads
-use Rattle.steps.proofs.stream.records_of.Reads as records-of-reads
+use Rattle.walk.proofs.stream.left_over.Reads as left-over-reads
+use Rattle.walk.proofs.stream.pump.Reads as pump-reads
+use Rattle.walk.proofs.stream.records_of.Reads as records-of-reads
 use Rattle.exprs.proofs.Lay.+arm+binary+block+body+chain+cond+decl+else_+expr+exprs+flow+group+guard+if_+inner+item+lead+let_+link+loops+loose+match_+object+pair+range+rows+select+stmt+stmts+tail+tuple.Lts-group as lts
 
 module _ (t : ℕ) where

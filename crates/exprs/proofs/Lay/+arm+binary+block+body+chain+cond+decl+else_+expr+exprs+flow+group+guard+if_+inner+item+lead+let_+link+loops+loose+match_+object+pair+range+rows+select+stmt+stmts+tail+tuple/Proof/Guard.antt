@@ -7,7 +7,7 @@ use Rattle.exprs.proofs.Lay.expr.Reads as expr-reads
 use Rattle.exprs.proofs.Lay.guard.Reads as guard-reads
 use Rattle.parts.proofs.spaced.between.Reads as between-reads
 use Rattle.parts.proofs.spaced.take_guard.Reads as take-guard-reads
-use Rattle.steps.proofs.stream.next_is.Reads as next-is-reads
+use Rattle.walk.proofs.stream.next_is.Reads as next-is-reads
 use Rattle.exprs.proofs.Lay.+arm+binary+block+body+chain+cond+decl+else_+expr+exprs+flow+group+guard+if_+inner+item+lead+let_+link+loops+loose+match_+object+pair+range+rows+select+stmt+stmts+tail+tuple.Lts-guard as lts
 
 module _ (t : ℕ) where

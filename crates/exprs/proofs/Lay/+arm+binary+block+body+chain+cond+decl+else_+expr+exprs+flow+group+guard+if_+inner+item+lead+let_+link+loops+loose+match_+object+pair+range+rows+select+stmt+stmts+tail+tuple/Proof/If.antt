@@ -6,11 +6,11 @@ use Rattle.exprs.proofs.Lay.block.Reads as block-reads
 use Rattle.exprs.proofs.Lay.cond.Reads as cond-reads
 use Rattle.exprs.proofs.Lay.if_.Reads as if--reads
 use Rattle.exprs.proofs.Lay.tail.Reads as tail-reads
-use Rattle.output.proofs.calls.lit.Reads as lit-reads
-use Rattle.steps.proofs.stream.left_over.Reads as left-over-reads
-use Rattle.steps.proofs.stream.next_is.Reads as next-is-reads
-use Rattle.steps.proofs.stream.pump.Reads as pump-reads
-use Rattle.steps.proofs.stream.records_of.Reads as records-of-reads
+use Rattle.calls.proofs.lit.Reads as lit-reads
+use Rattle.walk.proofs.stream.left_over.Reads as left-over-reads
+use Rattle.walk.proofs.stream.next_is.Reads as next-is-reads
+use Rattle.walk.proofs.stream.pump.Reads as pump-reads
+use Rattle.walk.proofs.stream.records_of.Reads as records-of-reads
 use Rattle.exprs.proofs.Lay.+arm+binary+block+body+chain+cond+decl+else_+expr+exprs+flow+group+guard+if_+inner+item+lead+let_+link+loops+loose+match_+object+pair+range+rows+select+stmt+stmts+tail+tuple.Lts-if_ as lts
 
 module _ (t : ℕ) where

@@ -12,7 +12,7 @@ use Rattle.exprs.proofs.Lay.group.Reads as group-reads
 use Rattle.exprs.proofs.Lay.inner.Reads as inner-reads
 use Rattle.exprs.proofs.Lay.object.Reads as object-reads
 use Rattle.exprs.proofs.Lay.tuple.Reads as tuple-reads
-use Rattle.queue.proofs.formatter.refuse.Reads as refuse-reads
+use Rattle.lent.proofs.formatter.refuse.Reads as refuse-reads
 use Rattle.tree.proofs.table.kind_at.Reads as kind-at-reads
 use Rattle.exprs.proofs.Lay.+arm+binary+block+body+chain+cond+decl+else_+expr+exprs+flow+group+guard+if_+inner+item+lead+let_+link+loops+loose+match_+object+pair+range+rows+select+stmt+stmts+tail+tuple.Lts-inner as lts
 

@@ -7,10 +7,10 @@ use Rattle.exprs.proofs.Ranks.{node-at, node-below, μ-decl, μ-item}
 use Rattle.exprs.proofs.Lay.decl.Reads as decl-reads
 use Rattle.exprs.proofs.Lay.item.Reads as item-reads
 use Rattle.paths.proofs.attribute.attributes.Reads as attributes-reads
-use Rattle.queue.proofs.formatter.refuse.Reads as refuse-reads
-use Rattle.steps.proofs.stream.left_over.Reads as left-over-reads
-use Rattle.steps.proofs.stream.pump.Reads as pump-reads
-use Rattle.steps.proofs.stream.records_of.Reads as records-of-reads
+use Rattle.lent.proofs.formatter.refuse.Reads as refuse-reads
+use Rattle.walk.proofs.stream.left_over.Reads as left-over-reads
+use Rattle.walk.proofs.stream.pump.Reads as pump-reads
+use Rattle.walk.proofs.stream.records_of.Reads as records-of-reads
 use Rattle.exprs.proofs.Lay.+arm+binary+block+body+chain+cond+decl+else_+expr+exprs+flow+group+guard+if_+inner+item+lead+let_+link+loops+loose+match_+object+pair+range+rows+select+stmt+stmts+tail+tuple.Lts-item as lts
 
 module _ (t : ℕ) where

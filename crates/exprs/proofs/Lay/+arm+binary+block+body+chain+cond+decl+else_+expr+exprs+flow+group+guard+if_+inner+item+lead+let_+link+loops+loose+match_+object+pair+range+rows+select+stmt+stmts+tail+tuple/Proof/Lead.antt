@@ -9,9 +9,9 @@ use Rattle.parts.proofs.leads.before_value.Reads as before-value-reads
 use Rattle.parts.proofs.leads.lead_head.Reads as lead-head-reads
 use Rattle.parts.proofs.leads.lead_takes.Reads as lead-takes-reads
 use Rattle.parts.proofs.leads.no_value.Reads as no-value-reads
-use Rattle.steps.proofs.stream.left_over.Reads as left-over-reads
-use Rattle.steps.proofs.stream.pump.Reads as pump-reads
-use Rattle.steps.proofs.stream.records_of.Reads as records-of-reads
+use Rattle.walk.proofs.stream.left_over.Reads as left-over-reads
+use Rattle.walk.proofs.stream.pump.Reads as pump-reads
+use Rattle.walk.proofs.stream.records_of.Reads as records-of-reads
 use Rattle.tree.proofs.table.kind_at.Reads as kind-at-reads
 use Rattle.exprs.proofs.Lay.+arm+binary+block+body+chain+cond+decl+else_+expr+exprs+flow+group+guard+if_+inner+item+lead+let_+link+loops+loose+match_+object+pair+range+rows+select+stmt+stmts+tail+tuple.Lts-lead as lts
 

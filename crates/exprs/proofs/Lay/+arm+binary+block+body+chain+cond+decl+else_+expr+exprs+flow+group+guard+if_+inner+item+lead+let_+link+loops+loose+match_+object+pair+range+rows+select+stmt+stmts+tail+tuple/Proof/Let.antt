@@ -9,9 +9,9 @@ use Rattle.exprs.proofs.Lay.expr.Reads as expr-reads
 use Rattle.exprs.proofs.Lay.let_.Reads as let--reads
 use Rattle.parts.proofs.heads.let_head.Reads as let-head-reads
 use Rattle.parts.proofs.spaced.expect_expr.Reads as expect-expr-reads
-use Rattle.queue.proofs.formatter.refuse.Reads as refuse-reads
-use Rattle.steps.proofs.stream.left_over.Reads as left-over-reads
-use Rattle.steps.proofs.stream.records_of.Reads as records-of-reads
+use Rattle.lent.proofs.formatter.refuse.Reads as refuse-reads
+use Rattle.walk.proofs.stream.left_over.Reads as left-over-reads
+use Rattle.walk.proofs.stream.records_of.Reads as records-of-reads
 use Rattle.exprs.proofs.Lay.+arm+binary+block+body+chain+cond+decl+else_+expr+exprs+flow+group+guard+if_+inner+item+lead+let_+link+loops+loose+match_+object+pair+range+rows+select+stmt+stmts+tail+tuple.Lts-let_ as lts
 
 module _ (t : ℕ) where

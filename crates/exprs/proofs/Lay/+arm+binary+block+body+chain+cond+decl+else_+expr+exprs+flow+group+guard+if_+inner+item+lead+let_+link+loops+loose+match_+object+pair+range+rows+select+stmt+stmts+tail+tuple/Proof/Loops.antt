@@ -9,13 +9,13 @@ use Rattle.exprs.proofs.Lay.block.Reads as block-reads
 use Rattle.exprs.proofs.Lay.cond.Reads as cond-reads
 use Rattle.exprs.proofs.Lay.expr.Reads as expr-reads
 use Rattle.exprs.proofs.Lay.loops.Reads as loops-reads
-use Rattle.output.proofs.calls.ws.Reads as ws-reads
+use Rattle.calls.proofs.ws.Reads as ws-reads
 use Rattle.parts.proofs.args.for_in.Reads as for-in-reads
 use Rattle.parts.proofs.spaced.word.Reads as word-reads
-use Rattle.steps.proofs.stream.expect.Reads as expect-reads
-use Rattle.steps.proofs.stream.left_over.Reads as left-over-reads
-use Rattle.steps.proofs.stream.pump.Reads as pump-reads
-use Rattle.steps.proofs.stream.records_of.Reads as records-of-reads
+use Rattle.walk.proofs.stream.expect.Reads as expect-reads
+use Rattle.walk.proofs.stream.left_over.Reads as left-over-reads
+use Rattle.walk.proofs.stream.pump.Reads as pump-reads
+use Rattle.walk.proofs.stream.records_of.Reads as records-of-reads
 use Rattle.tree.proofs.table.kind_at.Reads as kind-at-reads
 use Rattle.exprs.proofs.Lay.+arm+binary+block+body+chain+cond+decl+else_+expr+exprs+flow+group+guard+if_+inner+item+lead+let_+link+loops+loose+match_+object+pair+range+rows+select+stmt+stmts+tail+tuple.Lts-loops as lts
 

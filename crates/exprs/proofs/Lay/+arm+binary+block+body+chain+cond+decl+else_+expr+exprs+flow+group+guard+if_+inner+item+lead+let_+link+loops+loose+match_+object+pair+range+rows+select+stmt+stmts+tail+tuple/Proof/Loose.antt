@@ -12,9 +12,9 @@ use Rattle.exprs.proofs.Lay.loose.Reads as loose-reads
 use Rattle.gaps.proofs.lines.close_lines.Reads as close-lines-reads
 use Rattle.gaps.proofs.lines.end_entry.Reads as end-entry-reads
 use Rattle.gaps.proofs.lines.open_lines.Reads as open-lines-reads
-use Rattle.output.proofs.calls.comments.Reads as comments-reads
+use Rattle.calls.proofs.comments.Reads as comments-reads
 use Rattle.parts.proofs.spaced.next_expr.Reads as next-expr-reads
-use Rattle.steps.proofs.stream.pump.Reads as pump-reads
+use Rattle.walk.proofs.stream.pump.Reads as pump-reads
 use Rattle.exprs.proofs.Lay.+arm+binary+block+body+chain+cond+decl+else_+expr+exprs+flow+group+guard+if_+inner+item+lead+let_+link+loops+loose+match_+object+pair+range+rows+select+stmt+stmts+tail+tuple.Lts-loose as lts
 
 abbrev Inv-loop : lts.InvT-loop

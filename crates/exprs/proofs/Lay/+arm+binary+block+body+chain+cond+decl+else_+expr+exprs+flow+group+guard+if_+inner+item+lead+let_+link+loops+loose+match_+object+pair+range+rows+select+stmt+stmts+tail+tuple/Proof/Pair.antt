@@ -4,10 +4,10 @@ use Rattle.steps.proofs.Rules.{_▹_, arith, byteOf, factsOf, kept-length, need
 use Rattle.exprs.proofs.Ranks.{flag-below, step-at, μ-expr, μ-pair}
 use Rattle.exprs.proofs.Lay.expr.Reads as expr-reads
 use Rattle.exprs.proofs.Lay.pair.Reads as pair-reads
-use Rattle.output.proofs.calls.ws.Reads as ws-reads
-use Rattle.steps.proofs.stream.next_is.Reads as next-is-reads
-use Rattle.steps.proofs.stream.pump.Reads as pump-reads
-use Rattle.steps.proofs.tokens.any.Reads as any-reads
+use Rattle.calls.proofs.ws.Reads as ws-reads
+use Rattle.walk.proofs.stream.next_is.Reads as next-is-reads
+use Rattle.walk.proofs.stream.pump.Reads as pump-reads
+use Rattle.walk.proofs.tokens.any.Reads as any-reads
 use Rattle.exprs.proofs.Lay.+arm+binary+block+body+chain+cond+decl+else_+expr+exprs+flow+group+guard+if_+inner+item+lead+let_+link+loops+loose+match_+object+pair+range+rows+select+stmt+stmts+tail+tuple.Lts-pair as lts
 
 module _ (t : ℕ) where

@@ -8,10 +8,10 @@ use Rattle.exprs.proofs.Ranks.{node-at, node-below, μ-inner, μ-range}
 use Rattle.exprs.proofs.Lay.inner.Reads as inner-reads
 use Rattle.exprs.proofs.Lay.range.Reads as range-reads
 use Rattle.parts.proofs.sorts.is_prefix.Reads as is-prefix-reads
-use Rattle.steps.proofs.stream.left_over.Reads as left-over-reads
-use Rattle.steps.proofs.stream.pump.Reads as pump-reads
-use Rattle.steps.proofs.stream.records_of.Reads as records-of-reads
-use Rattle.steps.proofs.tokens.any.Reads as any-reads
+use Rattle.walk.proofs.stream.left_over.Reads as left-over-reads
+use Rattle.walk.proofs.stream.pump.Reads as pump-reads
+use Rattle.walk.proofs.stream.records_of.Reads as records-of-reads
+use Rattle.walk.proofs.tokens.any.Reads as any-reads
 use Rattle.tree.proofs.table.kind_at.Reads as kind-at-reads
 use Rattle.exprs.proofs.Lay.+arm+binary+block+body+chain+cond+decl+else_+expr+exprs+flow+group+guard+if_+inner+item+lead+let_+link+loops+loose+match_+object+pair+range+rows+select+stmt+stmts+tail+tuple.Lts-range as lts
 

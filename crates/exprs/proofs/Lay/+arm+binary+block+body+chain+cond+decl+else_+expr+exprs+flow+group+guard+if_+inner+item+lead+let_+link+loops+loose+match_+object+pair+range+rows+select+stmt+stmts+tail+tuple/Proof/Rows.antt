@@ -12,7 +12,7 @@ use Rattle.gaps.proofs.lines.close_keys.Reads as close-keys-reads
 use Rattle.gaps.proofs.lines.end_entry.Reads as end-entry-reads
 use Rattle.gaps.proofs.lines.key_line.Reads as key-line-reads
 use Rattle.gaps.proofs.lines.open_lines.Reads as open-lines-reads
-use Rattle.steps.proofs.stream.next_is.Reads as next-is-reads
+use Rattle.walk.proofs.stream.next_is.Reads as next-is-reads
 use Rattle.exprs.proofs.Lay.+arm+binary+block+body+chain+cond+decl+else_+expr+exprs+flow+group+guard+if_+inner+item+lead+let_+link+loops+loose+match_+object+pair+range+rows+select+stmt+stmts+tail+tuple.Lts-rows as lts
 
 abbrev Inv-loop : lts.InvT-loop

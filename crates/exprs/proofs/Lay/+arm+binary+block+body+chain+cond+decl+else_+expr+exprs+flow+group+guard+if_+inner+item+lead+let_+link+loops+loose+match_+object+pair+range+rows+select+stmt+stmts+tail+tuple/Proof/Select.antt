@@ -12,12 +12,12 @@ use Rattle.gaps.proofs.arms.arm_comma.Reads as arm-comma-reads
 use Rattle.gaps.proofs.arms.close_select.Reads as close-select-reads
 use Rattle.gaps.proofs.arms.is_block_arm.Reads as is-block-arm-reads
 use Rattle.gaps.proofs.arms.open_select.Reads as open-select-reads
-use Rattle.output.proofs.calls.lit.Reads as lit-reads
+use Rattle.calls.proofs.lit.Reads as lit-reads
 use Rattle.parts.proofs.spaced.word.Reads as word-reads
-use Rattle.steps.proofs.stream.left_over.Reads as left-over-reads
-use Rattle.steps.proofs.stream.next_is.Reads as next-is-reads
-use Rattle.steps.proofs.stream.pump.Reads as pump-reads
-use Rattle.steps.proofs.stream.records_of.Reads as records-of-reads
+use Rattle.walk.proofs.stream.left_over.Reads as left-over-reads
+use Rattle.walk.proofs.stream.next_is.Reads as next-is-reads
+use Rattle.walk.proofs.stream.pump.Reads as pump-reads
+use Rattle.walk.proofs.stream.records_of.Reads as records-of-reads
 use Rattle.exprs.proofs.Lay.+arm+binary+block+body+chain+cond+decl+else_+expr+exprs+flow+group+guard+if_+inner+item+lead+let_+link+loops+loose+match_+object+pair+range+rows+select+stmt+stmts+tail+tuple.Lts-select as lts
 
 abbrev Inv-loop : lts.InvT-loop

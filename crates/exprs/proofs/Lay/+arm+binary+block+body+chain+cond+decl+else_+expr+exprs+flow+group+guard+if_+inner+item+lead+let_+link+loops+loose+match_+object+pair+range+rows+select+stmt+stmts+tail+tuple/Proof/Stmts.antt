@@ -8,10 +8,10 @@ use Rattle.exprs.proofs.Lay.stmt.Reads as stmt-reads
 use Rattle.exprs.proofs.Lay.stmts.Reads as stmts-reads
 use Rattle.gaps.proofs.statements.gap.Reads as gap-reads
 use Rattle.gaps.proofs.statements.semicolon.Reads as semicolon-reads
-use Rattle.output.proofs.calls.comments.Reads as comments-reads
+use Rattle.calls.proofs.comments.Reads as comments-reads
 use Rattle.paths.proofs.attribute.inner_attributes.Reads as inner-attributes-reads
-use Rattle.steps.proofs.stream.has_next.Reads as has-next-reads
-use Rattle.steps.proofs.stream.pump.Reads as pump-reads
+use Rattle.walk.proofs.stream.has_next.Reads as has-next-reads
+use Rattle.walk.proofs.stream.pump.Reads as pump-reads
 use Rattle.tree.proofs.table.kind_at.Reads as kind-at-reads
 use Rattle.exprs.proofs.Lay.+arm+binary+block+body+chain+cond+decl+else_+expr+exprs+flow+group+guard+if_+inner+item+lead+let_+link+loops+loose+match_+object+pair+range+rows+select+stmt+stmts+tail+tuple.Lts-stmts as lts
 

@@ -7,8 +7,8 @@ use Rattle.steps.proofs.Rules.{starts, streamAt, treeOf, true, ℕ}
 use Rattle.exprs.proofs.Ranks.{node-below, step-at, μ-else-, μ-tail}
 use Rattle.exprs.proofs.Lay.else_.Reads as else--reads
 use Rattle.exprs.proofs.Lay.tail.Reads as tail-reads
-use Rattle.steps.proofs.stream.has_next.Reads as has-next-reads
-use Rattle.steps.proofs.stream.pump.Reads as pump-reads
+use Rattle.walk.proofs.stream.has_next.Reads as has-next-reads
+use Rattle.walk.proofs.stream.pump.Reads as pump-reads
 use Rattle.exprs.proofs.Lay.+arm+binary+block+body+chain+cond+decl+else_+expr+exprs+flow+group+guard+if_+inner+item+lead+let_+link+loops+loose+match_+object+pair+range+rows+select+stmt+stmts+tail+tuple.Lts-tail as lts
 
 abbrev Inv-loop : lts.InvT-loop

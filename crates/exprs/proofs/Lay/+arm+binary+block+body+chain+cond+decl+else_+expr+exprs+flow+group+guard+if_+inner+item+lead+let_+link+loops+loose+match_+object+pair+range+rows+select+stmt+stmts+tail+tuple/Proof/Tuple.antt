@@ -16,10 +16,10 @@ use Rattle.patterns.proofs.pat_parts.more.Reads as more-reads
 use Rattle.steps.proofs.items.before_item.Reads as before-item-reads
 use Rattle.steps.proofs.items.behind_item.Reads as behind-item-reads
 use Rattle.steps.proofs.remaining.fresh.Reads as fresh-reads
-use Rattle.steps.proofs.stream.left_over.Reads as left-over-reads
-use Rattle.steps.proofs.stream.pump.Reads as pump-reads
-use Rattle.steps.proofs.stream.records_of.Reads as records-of-reads
-use Rattle.steps.proofs.tokens.token.Reads as token-reads
+use Rattle.walk.proofs.stream.left_over.Reads as left-over-reads
+use Rattle.walk.proofs.stream.pump.Reads as pump-reads
+use Rattle.walk.proofs.stream.records_of.Reads as records-of-reads
+use Rattle.walk.proofs.tokens.token.Reads as token-reads
 use Rattle.exprs.proofs.Lay.+arm+binary+block+body+chain+cond+decl+else_+expr+exprs+flow+group+guard+if_+inner+item+lead+let_+link+loops+loose+match_+object+pair+range+rows+select+stmt+stmts+tail+tuple.Lts-tuple as lts
 
 abbrev Inv-loop : lts.InvT-loop

@@ -8,21 +8,21 @@ use Rattle.paths.proofs.path.path_generics.Reads as path-generics
 use Rattle.paths.proofs.path.path_generics.Kinds as path-generics-kinds
 use Rattle.paths.proofs.path.path_part.Reads as path-part
 use Rattle.paths.proofs.path.path_part.Kinds as path-part-kinds
-use Rattle.output.proofs.calls.write_owned.Reads as write-owned-reads
+use Rattle.calls.proofs.write_owned.Reads as write-owned-reads
 use Rattle.paths.proofs.path.+path+path_generics+path_part.Lts-path as path-lts
 use Rattle.paths.proofs.path.+path+path_generics+path_part.Lts-path_generics as path-generics-lts
 use Rattle.paths.proofs.path.+path+path_generics+path_part.Lts-path_part as path-part-lts
-use Rattle.queue.proofs.formatter.refuse.Reads as refuse-reads
+use Rattle.lent.proofs.formatter.refuse.Reads as refuse-reads
 use Rattle.steps.proofs.items.before_item.Reads as before-item-reads
 use Rattle.steps.proofs.items.behind_item.Reads as behind-item-reads
 use Rattle.steps.proofs.items.close_list.Reads as close-list-reads
 use Rattle.steps.proofs.remaining.fresh.Reads as fresh-reads
-use Rattle.steps.proofs.stream.has_next.Reads as has-next-reads
-use Rattle.steps.proofs.stream.left_over.Reads as left-over-reads
-use Rattle.steps.proofs.stream.next_is.Reads as next-is-reads
-use Rattle.steps.proofs.stream.pump.Reads as pump-reads
-use Rattle.steps.proofs.stream.records_of.Reads as records-of-reads
-use Rattle.steps.proofs.tokens.token.Reads as token-reads
+use Rattle.walk.proofs.stream.has_next.Reads as has-next-reads
+use Rattle.walk.proofs.stream.left_over.Reads as left-over-reads
+use Rattle.walk.proofs.stream.next_is.Reads as next-is-reads
+use Rattle.walk.proofs.stream.pump.Reads as pump-reads
+use Rattle.walk.proofs.stream.records_of.Reads as records-of-reads
+use Rattle.walk.proofs.tokens.token.Reads as token-reads
 use Rattle.tree.proofs.table.kind_at.Reads as kind-at-reads
 
 abbrev pub μ-path : Measures 5 path-kinds.ps ℕ

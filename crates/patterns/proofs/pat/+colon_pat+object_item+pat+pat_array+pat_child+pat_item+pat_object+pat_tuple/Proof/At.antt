@@ -18,8 +18,8 @@ use Rattle.patterns.proofs.pat.pat_object.Reads as pat-object
 use Rattle.patterns.proofs.pat.pat_object.Kinds as pat-object-kinds
 use Rattle.patterns.proofs.pat.pat_tuple.Reads as pat-tuple
 use Rattle.patterns.proofs.pat.pat_tuple.Kinds as pat-tuple-kinds
-use Rattle.output.proofs.calls.write_owned.Reads as write-owned-reads
-use Rattle.output.proofs.calls.ws.Reads as ws-reads
+use Rattle.calls.proofs.write_owned.Reads as write-owned-reads
+use Rattle.calls.proofs.ws.Reads as ws-reads
 use Rattle.paths.proofs.path.path.Reads as path-reads
 use Rattle.patterns.proofs.pat.+colon_pat+object_item+pat+pat_array+pat_child+pat_item+pat_object+pat_tuple.Lts-colon_pat as colon-pat-lts
 use Rattle.patterns.proofs.pat.+colon_pat+object_item+pat+pat_array+pat_child+pat_item+pat_object+pat_tuple.Lts-object_item as object-item-lts
@@ -38,7 +38,7 @@ use Rattle.patterns.proofs.pat_parts.pat_attributes.Reads as pat-attrib
 use Rattle.patterns.proofs.pat_parts.pat_lit.Reads as pat-lit-reads
 use Rattle.patterns.proofs.pat_parts.pat_or_dots.Reads as pat-or-dots-reads
 use Rattle.patterns.proofs.pat_parts.path_if.Reads as path-if-reads
-use Rattle.queue.proofs.formatter.refuse.Reads as refuse-reads
+use Rattle.lent.proofs.formatter.refuse.Reads as refuse-reads
 use Rattle.steps.proofs.items.before_item.Reads as before-item-reads
 use Rattle.steps.proofs.items.behind_item.Reads as behind-item-reads
 use Rattle.steps.proofs.items.close_list.Reads as close-list-reads
@@ -46,13 +46,13 @@ use Rattle.steps.proofs.remaining.fresh.Reads as fresh-reads
 use Rattle.steps.proofs.remaining.put.Reads as put-reads
 use Rattle.steps.proofs.remaining.put_remaining.Reads as put-remaining-reads
 use Rattle.steps.proofs.remaining.take_remaining.Reads as take-remaining-reads
-use Rattle.steps.proofs.stream.expect.Reads as expect-reads
-use Rattle.steps.proofs.stream.left_over.Reads as left-over-reads
-use Rattle.steps.proofs.stream.next_is.Reads as next-is-reads
-use Rattle.steps.proofs.stream.pump.Reads as pump-reads
-use Rattle.steps.proofs.stream.records_of.Reads as records-of-reads
-use Rattle.steps.proofs.tokens.any.Reads as any-reads
-use Rattle.steps.proofs.tokens.token.Reads as token-reads
+use Rattle.walk.proofs.stream.expect.Reads as expect-reads
+use Rattle.walk.proofs.stream.left_over.Reads as left-over-reads
+use Rattle.walk.proofs.stream.next_is.Reads as next-is-reads
+use Rattle.walk.proofs.stream.pump.Reads as pump-reads
+use Rattle.walk.proofs.stream.records_of.Reads as records-of-reads
+use Rattle.walk.proofs.tokens.any.Reads as any-reads
+use Rattle.walk.proofs.tokens.token.Reads as token-reads
 use Rattle.tree.proofs.table.kind_at.Reads as kind-at-reads
 
 abbrev pub μ-colon-pat : Measures 6 colon-pat-kinds.ps ℕ

@@ -1,9 +1,0 @@
--- `queue::formatter::count` meets its contract. Assumes nothing.
-use Rattle.text.proofs.Base.{needs}
-use Rattle.queue.specs.Words.{runOf}
-use Rattle.queue.proofs.formatter.count.Statement.{statement}
-use Rattle.queue.proofs.formatter.count.Tie as tie
-
-pub count-spec : {M : Type 1} → statement M
-unfolding runOf
-count-spec = tie.close (tie.spec (λ c. search needs) (λ c. search needs) (λ c. search needs))

@@ -1,9 +1,0 @@
--- `queue::formatter::lines` meets its contract. Assumes nothing.
-use Rattle.text.proofs.Base.{needs}
-use Rattle.queue.specs.Words.{runOf}
-use Rattle.queue.proofs.formatter.lines.Statement.{statement}
-use Rattle.queue.proofs.formatter.lines.Tie as tie
-
-pub lines-spec : {M : Type 1} → statement M
-unfolding runOf
-lines-spec = tie.close (tie.spec (λ c. search needs) (λ c. search needs) (λ c. search needs))

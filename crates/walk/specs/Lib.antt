@@ -1,0 +1,3 @@
+pub mod Stream
+pub mod Flow
+pub mod Loop

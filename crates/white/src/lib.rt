@@ -1,0 +1,39 @@
+// White_Space, Unicode's property.
+ghost use mathlib.Core.Path.{_≡_};
+ghost use Rattle.white.specs.White.{isWhite};
+
+// First and last code point of each of the ten ranges, in ascending order.
+const WHITE: [[u32; 2]; 10] = [
+    [0x0009, 0x000D],
+    [0x0020, 0x0020],
+    [0x0085, 0x0085],
+    [0x00A0, 0x00A0],
+    [0x1680, 0x1680],
+    [0x2000, 0x200A],
+    [0x2028, 0x2029],
+    [0x202F, 0x202F],
+    [0x205F, 0x205F],
+    [0x3000, 0x3000],
+];
+
+// The code point c has White_Space: none above the last range has it, else every range is asked, and one bool gathers the answers.
+pub fn is_white(c: u32) -> bool
+    ensures { λ r. ⌜ r ≡ isWhite c ⌝ }
+{
+    if WHITE[9][1] < c {
+        return false;
+    }
+    let mut w = false;
+    let mut k: usize = 0;
+    while k < 10 {
+        let lo = WHITE[k][0];
+        let hi = WHITE[k][1];
+        if lo <= c {
+            if c <= hi {
+                w = true;
+            }
+        }
+        k += 1;
+    }
+    w
+}
