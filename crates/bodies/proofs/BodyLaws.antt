@@ -1,5 +1,5 @@
 -- Laws of items on lines of their own, and of a body by its kind. Assumes nothing.
-use Rattle.steps.proofs.Rules.{_≡_, sym, ap, _∙_, Bool, List, ℕ, Record, RecordNo, Line, Comments, Nl, Indent, Script, Plan, make, _then_, Engine}
+use Rattle.steps.proofs.Rules.{_≡_, ap, Bool, List, ℕ, Record, RecordNo, Line, Comments, Nl, Indent, Script, Plan, make, _then_, Engine}
 use Rattle.steps.proofs.Rules.{Makes, Stream, pump, Goes, putRemaining, _▹_, steady, pump-takes, plain-takes, put-leaves, _takes-then_, Each}
 use Rattle.lent.proofs.MadeLaws as made
 use Rattle.steps.specs.declared.remaining.Mark.the-variants.{Comma}

@@ -56,6 +56,7 @@ fn body(
     }
 }
 
+// format.rs 1305 to 1330.
 pub fn item_struct(
     src: &[u8],
     table: &[u32],
@@ -71,6 +72,7 @@ pub fn item_struct(
     body(src, table, fmt, queue, out, p);
 }
 
+// format.rs 1367 to 1391.
 pub fn variant(
     src: &[u8],
     table: &[u32],

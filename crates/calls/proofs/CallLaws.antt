@@ -1,11 +1,10 @@
 -- The calls: what the code leaves is what `act` says. Assumes nothing.
-use Rattle.text.proofs.Base.{_≡_, refl, sym, ap, _∙_, List, [], _∷_, _++_, Bool, true, false, cond, not, _&&_, ℕ, zero, suc, _+_, _-_, _<_, _≤_}
+use Rattle.text.proofs.Base.{_≡_, refl, sym, ap, _∙_, List, [], _∷_, _++_, Bool, true, false, ℕ, zero, suc, _+_, _-_, _<_, _≤_}
 use Rattle.text.proofs.Base.{arith, length, ltb, lt-ltb, le-ltb}
 use mathlib.Core.List.{append-nil}
-use lib.ListN.{length-append}
 use lib.Seq.{sets}
 use Rattle.text.specs.Span.{textOf}
-use Rattle.tree.specs.{declared.record.RecordNo.RecordNo, Table.treeOf, Table.nodeOf}
+use Rattle.tree.specs.{declared.record.RecordNo.RecordNo}
 use Rattle.tree.specs.Cursor as cursor
 use Rattle.meaning.specs.{declared.call.Hint.Hint, declared.call.Hint.the-variants.Line, declared.call.Hint.the-variants.Prefix}
 use Rattle.meaning.specs.{declared.call.Hint.the-variants.Suffix, declared.call.Hint.the-variants.Infix, declared.call.Literal.Literal}
@@ -13,25 +12,24 @@ use Rattle.meaning.specs.{declared.call.Literal.the-variants.Braces, declared.c
 use Rattle.meaning.specs.{declared.call.Literal.the-variants.Parens, declared.call.Literal.the-variants.OpenBrace}
 use Rattle.meaning.specs.{declared.call.Literal.the-variants.CloseBrace, declared.call.Literal.the-variants.Comma}
 use Rattle.meaning.specs.{declared.call.Literal.the-variants.Semicolon, declared.call.Literal.the-variants.Colon, declared.call.Call.Call}
-use Rattle.meaning.specs.{declared.call.Call.the-variants.WriteOwned, declared.call.Call.the-variants.WriteRaw}
 use Rattle.meaning.specs.{declared.call.Call.the-variants.Ignore, declared.call.Call.the-variants.Lit, declared.call.Call.the-variants.Comments}
 use Rattle.meaning.specs.{declared.call.Call.the-variants.Indent, declared.call.Call.the-variants.Nl, declared.call.Call.the-variants.Ws}
-use Rattle.meaning.specs.{declared.call.Call.the-variants.FlushWhitespace, declared.call.Call.the-variants.FlushPrefixComments}
+use Rattle.meaning.specs.{declared.call.Call.the-variants.FlushWhitespace}
 use Rattle.meaning.specs.{declared.call.Call.the-variants.Finish, declared.answer.Refusal.Refusal, declared.answer.Refusal.the-variants.NoRoom}
 use Rattle.meaning.specs.{declared.answer.Refusal.the-variants.IndentOut, declared.answer.Answer.Answer, declared.answer.Answer.the-variants.Done}
-use Rattle.meaning.specs.{declared.answer.Answer.the-variants.Refused, State.Script, State.Comment, State.State, State.withLen, State.withLines}
-use Rattle.meaning.specs.{State.withUseLines, State.withWs, State.closed, Pieces.Piece, Pieces.gap, Pieces.text, Pieces.flat, Pieces.Emit}
-use Rattle.meaning.specs.{Pieces.emit, Outcome.Outcome, Outcome.done, Outcome.refused, Outcome.refuseIf, Collect.Collected, Collect.full, Collect.got}
-use Rattle.meaning.specs.{Collect.onGot, Collect.orElse, Collect.collect, Collect.collected, Collect.metFrom, Collect.gather, Collect.nodeText}
-use Rattle.meaning.specs.{Collect.behind, Flush.flush, Flush.flushed, Flush.flushGap, Release.lineRelease, Calls.litText, Calls.signed, Calls.act}
-use Rattle.meaning.specs.{Calls.settle, Calls.writeNode, Calls.no-node, Calls.a-node, Calls.namedBy, World.World, World.world, World.capacity}
-use Rattle.meaning.specs.{World.Result, World.result, World.made, Plan.make}
-use Rattle.lent.specs.{Run.Run, Run.isRefused, Run.answered, Run.movedRun, Run.hintedRun, Run.indentedRun, Run.closedRun, Run.flushedRun}
-use Rattle.lent.specs.{Run.readyRun, Run.presentRun, declared.room.Gap.Gap}
+use Rattle.meaning.specs.{declared.answer.Answer.the-variants.Refused, State.Script, State.Comment, State.State, State.withLines}
+use Rattle.meaning.specs.{State.withUseLines, State.withWs, State.closed, Pieces.Piece, Pieces.gap, Pieces.text, Pieces.flat}
+use Rattle.meaning.specs.{Outcome.Outcome, Outcome.done, Outcome.refuseIf, Collect.Collected, Collect.full, Collect.got}
+use Rattle.meaning.specs.{Collect.onGot, Collect.orElse, Collect.collect, Collect.collected, Collect.metFrom, Collect.gather}
+use Rattle.meaning.specs.{Collect.behind, Flush.flush, Flush.flushGap, Release.lineRelease, Calls.litText, Calls.signed, Calls.act}
+use Rattle.meaning.specs.{Calls.no-node, Calls.a-node, Calls.namedBy, World.World, World.world, World.capacity}
+use Rattle.meaning.specs.{World.result, World.made, Plan.make}
+use Rattle.lent.specs.{Run.Run, Run.isRefused, Run.answered, Run.movedRun, Run.indentedRun, Run.flushedRun}
+use Rattle.lent.specs.{declared.room.Gap.Gap}
 use Rattle.queue.specs.{declared.release.Way.Way, declared.release.Way.the-variants.Lines}
 use Rattle.lent.specs.{Wording.litSpan, View.queueOf, View.view}
 use Rattle.queue.specs.{declared.release.Way.the-variants.Spaces, Passes.releaseOf, Passes.wayOf}
-use Rattle.lent.specs.{View.resultOf, View.scriptOf, View.gapBytes, View.Laid, Words.runOf, Words.Readied, Words.Present, Loans.engine, Loans.reads}
+use Rattle.lent.specs.{View.resultOf, View.gapBytes, View.Laid, Words.runOf, Words.Readied, Words.Present, Loans.engine, Loans.reads}
 use Rattle.lent.specs.{Loans.Makes}
 use Rattle.queue.specs.{Parts.onward, Parts.settles, Parts.LetsOut, Parts.PutText, Parts.onAnswer, Parts.Gathered, Parts.Collects}
 use Rattle.lent.proofs.WriteLaws.{laid-length}

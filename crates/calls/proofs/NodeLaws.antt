@@ -1,5 +1,5 @@
 -- The calls that write and collect, or collect and write. Assumes nothing.
-use Rattle.text.proofs.Base.{_≡_, refl, sym, ap, _∙_, List, [], _∷_, _++_, Bool, true, false, ℕ, _+_, _<_, _≤_, arith, length, ltb}
+use Rattle.text.proofs.Base.{_≡_, refl, sym, ap, _∙_, List, [], _∷_, _++_, Bool, true, false, ℕ, _+_, arith, length, ltb}
 use mathlib.Core.List.{append-nil}
 use lib.Seq.{sets, length-sets}
 use Rattle.text.specs.Span.{textOf}
@@ -7,13 +7,13 @@ use Rattle.tree.specs.{declared.record.Record.Record, declared.record.RecordNo.
 use Rattle.tree.specs.Cursor as cursor
 use Rattle.meaning.specs.{declared.call.Call.the-variants.WriteOwned, declared.call.Call.the-variants.WriteRaw}
 use Rattle.meaning.specs.{declared.call.Call.the-variants.FlushPrefixComments, declared.answer.Refusal.the-variants.NoRoom}
-use Rattle.meaning.specs.{declared.answer.Answer.Answer, declared.answer.Answer.the-variants.Done, declared.answer.Answer.the-variants.Refused}
-use Rattle.meaning.specs.{State.Script, State.Comment, State.State, State.withLen, State.withUseLines, Pieces.Piece, Pieces.gap, Pieces.text}
-use Rattle.meaning.specs.{Pieces.flat, Pieces.Emit, Pieces.emit, Outcome.Outcome, Outcome.done, Outcome.refused, Outcome.refuseIf, Collect.gather}
-use Rattle.meaning.specs.{Collect.nodeText, Collect.behind, Flush.flushGap, Release.lineRelease, Calls.act, Calls.writeNode, World.World, World.world}
+use Rattle.meaning.specs.{declared.answer.Answer.the-variants.Done, declared.answer.Answer.the-variants.Refused}
+use Rattle.meaning.specs.{State.Script, State.State, State.withLen, State.withUseLines, Pieces.Piece, Pieces.gap, Pieces.text}
+use Rattle.meaning.specs.{Pieces.flat, Pieces.emit, Outcome.Outcome, Outcome.done, Outcome.refuseIf, Collect.gather}
+use Rattle.meaning.specs.{Collect.nodeText, Collect.behind, Flush.flushGap, Release.lineRelease, Calls.act, Calls.writeNode, World.world}
 use Rattle.meaning.specs.{World.Result, World.result, World.made}
 use Rattle.lent.specs.{Run.Run, Run.isRefused, Run.answered, Run.movedRun, Run.hintedRun, Run.collectedRun, Run.flushedRun, declared.room.Gap.Gap}
-use Rattle.lent.specs.{View.queueOf, View.view, View.resultOf, View.gapBytes, View.Laid}
+use Rattle.lent.specs.{View.view, View.resultOf, View.gapBytes, View.Laid}
 use Rattle.queue.specs.{declared.release.Way.the-variants.Lines, Parts.onward}
 use Rattle.queue.specs.{Parts.settles, Parts.LetsOut, Parts.onAnswer, Parts.Gathered, Parts.Collects, Parts.Beside, Parts.WroteNode}
 use Rattle.lent.proofs.{WriteLaws.laid-length, StopLaws.goes}

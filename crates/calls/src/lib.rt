@@ -73,6 +73,7 @@ pub fn write_owned(
     written(fmt, to);
 }
 
+// The same without the white space: output.rs 164 to 168.
 pub fn write_raw(
     src: &[u8],
     table: &[u32],
@@ -101,6 +102,7 @@ pub fn write_raw(
     set_len(fmt, to);
 }
 
+// Nothing is written; what stands behind the node is collected: output.rs 150 to 153.
 pub fn ignore(
     src: &[u8],
     table: &[u32],
@@ -117,6 +119,7 @@ pub fn ignore(
     process_comments(src, table, fmt, queue, behind(table, k), lines(fmt));
 }
 
+// A literal keeps the lines that it did not write: output.rs 171 to 177.
 pub fn lit(
     src: &[u8],
     table: &[u32],
@@ -131,6 +134,7 @@ pub fn lit(
     put(fmt, out, true, text(src, &LITERALS, Wording::Literal(l)));
 }
 
+// output.rs 382 to 401.
 pub fn flush_whitespace(
     src: &[u8],
     table: &[u32],
@@ -157,6 +161,7 @@ fn way_of(h: Hint) -> Way
     }
 }
 
+// By the hint: output.rs 180 to 205.
 pub fn comments(
     src: &[u8],
     table: &[u32],
@@ -217,6 +222,7 @@ pub fn nl(src: &[u8], table: &[u32], fmt: &mut Formatter, queue: &mut Queue, out
     set_lines(fmt, or_else(lines(fmt), n as u32));
 }
 
+// A space is due, behind the comments that a space may follow: output.rs 246 to 250.
 pub fn ws(src: &[u8], table: &[u32], fmt: &mut Formatter, queue: &mut Queue, out: &mut [u8])
     ensures { λ _. ⌜ Made src table fmt queue out (make Call.Ws) ⌝ }
 {
@@ -254,6 +260,7 @@ pub fn flush_prefix_comments(
     set_use_lines(fmt, 0 < lines(fmt));
 }
 
+// All that waits goes, and no call is taken any more; the Rust does so where the whole layout ends.
 pub fn finish(src: &[u8], table: &[u32], fmt: &mut Formatter, queue: &mut Queue, out: &mut [u8])
     ensures { λ _. ⌜ Made src table fmt queue out (make Call.Finish) ⌝ }
 {

@@ -1,5 +1,5 @@
 -- After a refusal the engine behind the reference is as it was: what a caller cites. Assumes nothing.
-use Rattle.text.proofs.Base.{_≡_, refl, sym, _∙_, ap, ℕ, List}
+use Rattle.text.proofs.Base.{_≡_, _∙_, ap, ℕ, List}
 use Rattle.meaning.specs.declared.answer.Refusal.{Refusal}
 use Rattle.meaning.specs.declared.answer.Answer.{Answer}
 use Rattle.meaning.specs.declared.answer.Answer.the-variants.{Refused}

@@ -1,11 +1,9 @@
 -- Call records, kind by kind. Assumes nothing.
-use Rattle.text.proofs.Base.{_≡_, refl, sym, ap, _∙_, List, [], _∷_, ℕ, zero, suc, _+_, _*_, _≤_, _<_, arith, length, drop, getD, eqb, eq-eqb, ne-eqb}
-use mathlib.Core.List.{map}
+use Rattle.text.proofs.Base.{_≡_, refl, ap, _∙_, List, [], _∷_, ℕ, zero, suc, _+_, _*_, _≤_, arith, length, drop, getD, ne-eqb}
 use mathlib.Core.Option.{Option, none, some}
 use Rattle.tree.specs.{declared.record.RecordNo.RecordNo, Records.four}
 use Rattle.meaning.specs.declared.call.Call.{Call}
-use Rattle.meaning.specs.declared.call.Call.the-variants.{WriteOwned, WriteRaw, Ignore}
-use Rattle.meaning.specs.CallRecord.{Body, a-number, listed, a-byte, nothing, bodyForms, at, readBody, readAs, ofKind, decode}
+use Rattle.meaning.specs.CallRecord.{Body, a-number, listed, a-byte, nothing, at, readBody, readAs, ofKind, decode}
 use Rattle.entry.specs.Served.{numbered}
 
 pub at-none : (cs : List Call) (n : ℕ) → length cs ≤ n → none ≡ at cs n

@@ -1,15 +1,15 @@
 -- The checks on what is lent, and that they come before the steps. Assumes nothing.
-use Rattle.text.proofs.Base.{_≡_, refl, sym, ap, _∙_, Bool, true, false, not, cond, _||_, List, [], _∷_, ℕ, _<_, _≤_, arith, length, ltb, lt-ltb}
+use Rattle.text.proofs.Base.{_≡_, refl, sym, ap, _∙_, Bool, true, false, _||_, List, _∷_, ℕ, _<_, _≤_, arith, length, ltb, lt-ltb}
 use Rattle.text.proofs.Base.{le-ltb}
 use mathlib.Core.Option.{Option, none, some}
 use Rattle.text.specs.Chars.{inSource}
-use Rattle.meaning.specs.{declared.call.Call.Call, declared.answer.Refusal.Refusal, declared.answer.Refusal.the-variants.NoRoom}
+use Rattle.meaning.specs.{declared.call.Call.Call, declared.answer.Refusal.the-variants.NoRoom}
 use Rattle.meaning.specs.{declared.answer.Refusal.the-variants.QueueFull, declared.answer.Refusal.the-variants.IndentOut}
 use Rattle.meaning.specs.{declared.answer.Refusal.the-variants.BadCall, declared.answer.Answer.Answer, declared.answer.Answer.the-variants.Done}
-use Rattle.meaning.specs.{declared.answer.Answer.the-variants.Refused, State.Script, State.Comment, State.State, Outcome.Outcome, Outcome.done}
+use Rattle.meaning.specs.{declared.answer.Answer.the-variants.Refused, State.Script, State.Comment, Outcome.Outcome}
 use Rattle.meaning.specs.{Outcome.refused, Outcome.refuseIf, Calls.step, CallRecord.decode, CallRecord.asked, Lent.anyOutside, Lent.lentState}
 use Rattle.meaning.specs.{Lent.lent, Lent.serve, Lent.serveRecord, World.World, World.world, World.capacity, World.Result, World.result, World.made}
-use Rattle.meaning.specs.{World.call, World.callRecord, Plan.make, Plan.refuse, Plan.goOn, Plan.exec}
+use Rattle.meaning.specs.{World.call, World.callRecord, Plan.make, Plan.goOn, Plan.exec}
 use Rattle.lent.specs.{Run.Run, Run.isRefused, Run.answered, View.ringAt, View.queueOf, View.view, View.resultOf}
 use Rattle.entry.specs.Served.{checkedAnswer, lentAnswer, lentRun, askedPlan}
 use Rattle.lent.proofs.TabLaws.{length-tab}

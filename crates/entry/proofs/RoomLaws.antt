@@ -6,7 +6,7 @@ use mathlib.Core.Bool.{Bool, true, false, cond}
 use mathlib.Core.List.{List, [], _∷_}
 use lib.ListN.{length}
 use lib.Dec.{ltb}
-use Rattle.tree.specs.Records.{bodyOf, recordsFrom, records}
+use Rattle.tree.specs.Records.{bodyOf, recordsFrom}
 use Rattle.entry.specs.Room.{Room}
 
 pub full-room : (list words : List ℕ) → length words ≡ 32768 → Room list words

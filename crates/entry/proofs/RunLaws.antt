@@ -1,7 +1,7 @@
 -- Runs: a plan keeps every byte below the output's length, so that what the code leaves at a run's end is what the meaning's run leaves.
 -- Assumes nothing.
-use Rattle.text.proofs.Base.{_≡_, refl, sym, ap, _∙_, Bool, true, false, _||_, List, [], _∷_, _++_, ℕ, zero, suc, _+_, _-_, _*_, _≤_, _<_, arith}
-use Rattle.text.proofs.Base.{length, take, ltb, drop}
+use Rattle.text.proofs.Base.{_≡_, refl, ap, _∙_, Bool, true, false, _||_, List, [], _∷_, ℕ, suc, _+_, _-_, _*_, _≤_, arith}
+use Rattle.text.proofs.Base.{length, take, ltb}
 use lib.ListN.{set, replicate, length-replicate}
 use lib.Seq.{sets, take-set-le, take-all, drop-length, sets-eq}
 use mathlib.Core.List.{append-nil}
@@ -10,7 +10,7 @@ use Rattle.opening.specs.{Opening.opened}
 use Rattle.meaning.specs.{declared.answer.Refusal.Refusal, declared.call.Call.Call, declared.answer.Refusal.the-variants.NoRoom}
 use Rattle.meaning.specs.{declared.answer.Refusal.the-variants.QueueFull, declared.answer.Refusal.the-variants.IndentOut}
 use Rattle.meaning.specs.{declared.answer.Refusal.the-variants.Finished, declared.answer.Answer.Answer, declared.answer.Answer.the-variants.Done}
-use Rattle.meaning.specs.{declared.answer.Answer.the-variants.Refused, State.Script, State.State, Pieces.Piece, Pieces.flat, Outcome.Outcome}
+use Rattle.meaning.specs.{declared.answer.Answer.the-variants.Refused, State.Script, State.State, Pieces.flat, Outcome.Outcome}
 use Rattle.meaning.specs.{Outcome.done, Outcome.refused, Outcome.refuseIf, Calls.step, World.World, World.world, World.capacity, World.Result}
 use Rattle.meaning.specs.{World.result, World.made, Plan.Plan, Plan.nothing, Plan.make, Plan.refuse, Plan._then_, Plan.exec, Plan.zeroed}
 use Rattle.meaning.specs.{Plan.putBack, Plan.answerOf, Plan.ready, Plan.run, Lent.anyOutside, Lent.lentState, Opening.answerTo, Opening.scriptIn}

@@ -1,6 +1,6 @@
 -- The public functions: the table read as the tree, and what is handed back. Assumes nothing.
-use Rattle.text.proofs.Base.{_≡_, refl, sym, ap, _∙_, Bool, true, false, List, [], _∷_, ℕ, _+_, _*_, _<_, _≤_, arith, length, take, eqb}
-use mathlib.Core.Option.{Option, none, some}
+use Rattle.text.proofs.Base.{_≡_, refl, sym, ap, _∙_, Bool, true, false, List, [], _∷_, ℕ, _*_, _<_, arith, length, take, eqb}
+use mathlib.Core.Option.{Option}
 use native.Mathlib.Nat.{mod-eq-of-lt}
 use Rattle.tree.specs.{declared.record.RecordNo.RecordNo, Records.records}
 use Rattle.opening.specs.{declared.open.Opening.Opening, Opening.opened}

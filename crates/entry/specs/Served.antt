@@ -1,7 +1,7 @@
 -- What the public functions promise: the whole result and the whole buffer. Assumes nothing.
 use mathlib.Core.Path.{_≡_}
 use Prim.Native.Nat.{ℕ, zero, suc}
-use mathlib.Core.Bool.{Bool, true, false, cond, _||_}
+use mathlib.Core.Bool.{Bool, cond, _||_}
 use mathlib.Core.List.{List}
 use mathlib.Core.Option.{Option, none, some}
 use lib.ListN.{length}
@@ -15,7 +15,7 @@ use Rattle.meaning.specs.declared.answer.Answer.the-variants.{Done, Refused}
 use Rattle.meaning.specs.State.{State, fresh}
 use Rattle.meaning.specs.Opening.{scriptIn, opening}
 use Rattle.meaning.specs.Lent.{anyOutside}
-use Rattle.meaning.specs.World.{World, world, Result, call, callRecord}
+use Rattle.meaning.specs.World.{world, Result, call, callRecord}
 use Rattle.meaning.specs.Plan.{Plan, make, refuse}
 use Rattle.entry.specs.declared.state.Small.{Small}
 use Rattle.entry.specs.declared.state.State as code

@@ -8,7 +8,6 @@ use Rattle.white.proofs.Bools.{le-or-lt}
 use Rattle.walk.specs.Stream.{Peeked}
 use Rattle.walk.proofs.StreamLaws.{found-same}
 use Rattle.patterns.specs.Pattern.{objectName, silent}
-use Rattle.loose.specs.declared.reason.Reason.{Reason}
 use Rattle.loose.specs.Reason.{reason, isLoose}
 use Rattle.lent.proofs.MadeLaws as made
 use Rattle.gaps.specs.Lines.{endEntry, keyLine, nextKey}

@@ -1,7 +1,7 @@
 -- Laws of arms: the last record of a node, and whether an arm's body is a block. Assumes nothing.
 use Rattle.steps.proofs.Rules.{_≡_, sym, ap, _∙_, Bool, true, false, List, [], _∷_, ℕ, _<_, arith, length, Record, RecordNo, Kind, byteOf, nodeOf}
 use Rattle.steps.proofs.Rules.{Stream, nextIn, nextIs, recordsOf, takeIn, takeAny, takeIf, Ate, eqb}
-use Rattle.tree.specs.{declared.cursor.Found.Found, declared.cursor.Found.the-variants.At, declared.cursor.Found.the-variants.None, Cursor.foundOf}
+use Rattle.tree.specs.{declared.cursor.Found.Found, declared.cursor.Found.the-variants.None, Cursor.foundOf}
 use Rattle.tree.proofs.Laws.{found-is, found-not}
 use Rattle.walk.specs.Stream.{no, isSome}
 use Rattle.walk.proofs.StreamLaws.{some-is, some-not}

@@ -1,6 +1,6 @@
 -- Laws of statements and their blocks: the lines between two, and the semicolon. Assumes nothing.
-use Rattle.steps.proofs.Rules.{_≡_, ap, Bool, true, false, not, List, ℕ, ne-eqb, eqb, Record, Suffix, Comments, Nl, Script}
-use Rattle.steps.proofs.Rules.{nothing, make, _then_, Engine, engine, Makes, rest-then, nothing-made, Remaining, Stream, Goes}
+use Rattle.steps.proofs.Rules.{_≡_, Bool, true, false, List, ℕ, ne-eqb, Record, Suffix, Comments, Nl, Script}
+use Rattle.steps.proofs.Rules.{make, _then_, Engine, engine, Makes, rest-then, nothing-made, Remaining, Stream, Goes}
 use Rattle.kinds.specs.declared.class.Class.{Class}
 use Rattle.kinds.specs.Facts.{classOf, needsSemi}
 use Rattle.kinds.specs.Kinds.{kindOf}

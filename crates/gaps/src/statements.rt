@@ -26,6 +26,7 @@ ghost use Rattle.walk.specs.Flow.{Walked};
 ghost use Rattle.steps.specs.Remaining.{remainingOf};
 ghost use Rattle.gaps.specs.Statements.{isConst, isLocal, linesOf, gap, beforeSemi, semicolon, isSpread, enter, leave, groupEnd};
 
+// A const statement: those stand together, format.rs 1650.
 fn is_const(class: Class) -> bool
     ensures { λ r. ⌜ r ≡ isConst class ⌝ }
 {
@@ -38,6 +39,7 @@ fn is_const(class: Class) -> bool
     }
 }
 
+// A `let`: those stand together as well, format.rs 1651.
 fn is_local(class: Class) -> bool
     ensures { λ r. ⌜ r ≡ isLocal class ⌝ }
 {

@@ -1,7 +1,7 @@
 -- Plans one after the other over the lent words, and what a refusal does. Assumes nothing.
 use Rattle.text.proofs.Base.{_≡_, refl, sym, ap, _∙_, Bool, true, false, List, ℕ, arith, length}
 use Rattle.meaning.specs.{declared.answer.Refusal.Refusal, declared.answer.Answer.Answer, declared.answer.Answer.the-variants.Done}
-use Rattle.meaning.specs.{declared.answer.Answer.the-variants.Refused, State.Script, World.World, World.Result, World.result, Plan.Plan, Plan.nothing}
+use Rattle.meaning.specs.{declared.answer.Answer.the-variants.Refused, State.Script, World.World, World.result, Plan.Plan, Plan.nothing}
 use Rattle.meaning.specs.{Plan.refuse, Plan._then_, Plan.exec, Plan.Ran}
 use Rattle.meaning.proofs.Plans.{sticky}
 use Rattle.meaning.proofs.Chain as chain

@@ -1,11 +1,11 @@
 -- The ring: a comment is pushed, and the head moves on. Assumes nothing.
-use Rattle.text.proofs.Base.{_≡_, refl, sym, ap, _∙_, Bool, true, false, List, [], _∷_, _++_, ℕ, zero, suc, _+_, _-_, _*_, _%_, _<_, _≤_, arith}
+use Rattle.text.proofs.Base.{_≡_, refl, sym, ap, _∙_, Bool, true, false, List, [], _∷_, _++_, ℕ, _+_, _-_, _%_, _<_, arith}
 use Rattle.text.proofs.Base.{length, getD, eqb}
 use lib.ListN.{set, length-set}
 use lib.Seq.{getD-set-same, getD-set-other}
 use Rattle.tree.specs.Records.{spanOf}
 use Rattle.meaning.specs.State.{Comment}
-use Rattle.lent.specs.View.{tab, slotOf, flagOf, commentFrom, ringAt, queueOf, stored}
+use Rattle.lent.specs.View.{slotOf, flagOf, commentFrom, ringAt, queueOf, stored}
 use Rattle.lent.proofs.TabLaws.{tab-snoc, tab-same, tab-next}
 
 -- four words stored in a row

@@ -3,7 +3,7 @@ use Rattle.text.proofs.Base.{_≡_, refl, sym, ap, _∙_, Bool, true, false, Li
 use Rattle.text.proofs.Base.{length, take, leb}
 use mathlib.Core.List.{append-assoc}
 use native.Mathlib.Nat.{min-eq-left, min-eq-right}
-use lib.ListN.{set, replicate}
+use lib.ListN.{replicate}
 use lib.Seq.{take-all}
 use borrow.Author.Tests.{leb-true, leb-false}
 use Rattle.meaning.specs.State.{Comment}

@@ -1,10 +1,10 @@
 -- Open or stopped, and refusals 10 and 11 before a call. Assumes nothing.
-use Rattle.text.proofs.Base.{_≡_, refl, sym, ap, _∙_, List, [], _∷_, _++_, Bool, true, false, cond, ℕ, zero, suc, _+_, _<_, _≤_, arith, length, eqb}
-use Rattle.text.proofs.Base.{leb, ltb, eq-eqb, ne-eqb}
+use Rattle.text.proofs.Base.{_≡_, refl, sym, ap, _∙_, List, Bool, true, false, ℕ, _<_, _≤_, arith, length}
+use Rattle.text.proofs.Base.{leb}
 use borrow.Author.Tests.{le-leb, lt-leb}
 use Rattle.tree.specs.{declared.record.Record.Record, declared.record.RecordNo.RecordNo}
 use Rattle.meaning.specs.{declared.answer.Refusal.the-variants.Finished, declared.answer.Refusal.the-variants.NoNode, declared.answer.Answer.Answer}
-use Rattle.meaning.specs.{declared.answer.Answer.the-variants.Done, declared.answer.Answer.the-variants.Refused, Pieces.space, Pieces.breaks}
+use Rattle.meaning.specs.{declared.answer.Answer.the-variants.Done, declared.answer.Answer.the-variants.Refused}
 use Rattle.lent.specs.{Run.Run, Run.isRefused, Run.answered, Run.readyAnswer, Run.readyRun, Run.presentAnswer, Run.presentRun}
 
 pub is-done : (a : Answer) → isRefused a ≡ false → a ≡ Done

@@ -1,5 +1,5 @@
 -- Tables: a function's values in a row. Assumes nothing.
-use Rattle.text.proofs.Base.{_≡_, refl, ap, List, [], _∷_, _++_, ℕ, zero, suc, _+_, _-_, _<_, _≤_, arith, length, take, drop}
+use Rattle.text.proofs.Base.{_≡_, refl, ap, [], _∷_, _++_, ℕ, zero, suc, _+_, _-_, _<_, _≤_, arith, length, take, drop}
 use native.Mathlib.Nat.{add-zero}
 use Rattle.lent.specs.View.{tab}
 

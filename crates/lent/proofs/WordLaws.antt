@@ -4,10 +4,10 @@ use native.Mathlib.Nat.{mod-eq-of-lt}
 use lib.ListN.{set}
 use Rattle.tree.specs.{declared.record.Record.Record, declared.record.RecordNo.RecordNo}
 use Rattle.meaning.specs.{declared.answer.Refusal.Refusal, declared.answer.Refusal.the-variants.Finished, declared.answer.Refusal.the-variants.NoNode}
-use Rattle.meaning.specs.{declared.answer.Answer.Answer, declared.answer.Answer.the-variants.Done, declared.answer.Answer.the-variants.Refused}
+use Rattle.meaning.specs.{declared.answer.Answer.the-variants.Refused}
 use Rattle.meaning.specs.{Numbers.seen, Numbers.answerBy, Numbers.Placed}
 use Rattle.lent.specs.{Run.Run, Run.isRefused, Run.answered, Run.movedRun, Run.hintedRun, Run.indentedRun, Run.closedRun, Run.letOutRun}
-use Rattle.lent.specs.{Run.collectedRun, Run.readyRun, Run.presentRun, View.flagOf, Words.runOf, Words.Readied, Words.Present}
+use Rattle.lent.specs.{Run.collectedRun, Run.presentRun, View.flagOf, Words.runOf, Words.Readied, Words.Present}
 use Rattle.lent.proofs.StopLaws.{goes}
 use Rattle.lent.proofs.StopLaws.{ready-stopped, ready-finished, ready-open, present-stopped, present-missing, present-there}
 

@@ -1,6 +1,6 @@
 -- Writes into a buffer: a byte over and over, a text, a gap with a text behind it. Assumes nothing.
-use Rattle.text.proofs.Base.{_≡_, refl, sym, ap, _∙_, List, [], _∷_, _++_, Bool, true, false, ℕ, zero, suc, _+_, _-_, _*_, _<_, _≤_, min, arith}
-use Rattle.text.proofs.Base.{length, getD, drop, ltb, lt-ltb, le-ltb}
+use Rattle.text.proofs.Base.{_≡_, ap, _∙_, List, [], _∷_, _++_, ℕ, suc, _+_, _-_, _*_, _<_, _≤_, min, arith}
+use Rattle.text.proofs.Base.{length, getD, drop}
 use native.Mathlib.Nat.{add-zero, min-eq-left, min-eq-right}
 use native.Mathlib.Numerals.{add-one}
 use lib.ListN.{set, replicate, length-replicate, length-append, drop-of-length-le}

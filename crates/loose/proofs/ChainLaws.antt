@@ -1,5 +1,5 @@
 -- Laws of where a chain breaks: the records behind its head one by one, as the loops go over them. Assumes nothing.
-use Rattle.text.proofs.Base.{_≡_, refl, _∙_, _⊎_, inl, inr, Bool, true, false, List, _∷_, ℕ, zero, suc, _≤_, _<_, _+_, _-_, length, eqb, eq-eqb, ne-eqb, arith}
+use Rattle.text.proofs.Base.{_≡_, refl, _∙_, _⊎_, inl, inr, Bool, true, false, List, _∷_, ℕ, zero, suc, _≤_, _<_, _+_, _-_, length, eq-eqb, ne-eqb, arith}
 use native.Mathlib.Numerals.{add-one}
 use Rattle.text.specs.declared.span.Span.{Span}
 use Rattle.text.specs.Span.{joined}

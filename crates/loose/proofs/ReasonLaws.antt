@@ -1,5 +1,5 @@
 -- Laws of the reason why a list goes loose: the records one by one, as the loop goes over them. Assumes nothing.
-use Rattle.text.proofs.Base.{_≡_, refl, _⊎_, inl, inr, Bool, true, false, List, _∷_, ℕ, _≤_, _<_, _+_, length, eqb, eq-eqb, ne-eqb, arith}
+use Rattle.text.proofs.Base.{_≡_, refl, _⊎_, inl, inr, Bool, true, false, List, _∷_, ℕ, _≤_, _<_, _+_, length, eq-eqb, ne-eqb, arith}
 use native.Mathlib.Numerals.{add-one}
 use Rattle.text.specs.declared.span.BytePos.{BytePos}
 use Rattle.width.specs.Count.{isAtLeast, placeIn}

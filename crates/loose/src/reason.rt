@@ -77,6 +77,7 @@ pub fn goes_loose(src: &[u8], table: &[u32], k: RecordNo, from: RecordNo, keys: 
     is_loose(crowd(table, k, from, keys))
 }
 
+// Whether it is a reason at all.
 pub fn is_loose(why: Reason) -> bool
     ensures { λ r. ⌜ r ≡ isLoose why ⌝ }
 {

@@ -1,10 +1,6 @@
 -- Plans one after the other; and that no plan changes how long the buffer is. Assumes nothing.
 use mathlib.Core.Path.{_≡_, refl, ap, _∙_}
-use mathlib.Core.Bool.{Bool, true, false}
-use mathlib.Core.List.{List}
-use Prim.Native.Nat.{ℕ}
-use lib.ListN.{length}
-use lib.Seq.{sets, length-sets}
+use lib.Seq.{length-sets}
 use Rattle.meaning.specs.declared.answer.Answer.{Answer}
 use Rattle.meaning.specs.declared.answer.Answer.the-variants.{Done, Refused}
 use Rattle.meaning.specs.State.{Script}
@@ -12,7 +8,7 @@ use Rattle.meaning.specs.Pieces.{flat}
 use Rattle.meaning.specs.Outcome.{Outcome, done, refused}
 use Rattle.meaning.specs.Calls.{step}
 use Rattle.meaning.specs.World.{World, capacity, Result, result, made}
-use Rattle.meaning.specs.Plan.{Plan, nothing, make, refuse, _then_, goOn, exec, Ran}
+use Rattle.meaning.specs.Plan.{Plan, nothing, make, refuse, _then_, exec, Ran}
 
 made-long : (w : World) (o : Outcome) → capacity (made w o .left) ≡ capacity w
 made-long w (done s ps) = length-sets (w .buffer) (w .state .len) (flat ps)

@@ -15,7 +15,6 @@ use Rattle.tree.specs.declared.record.Record.{Record}
 use Rattle.tree.specs.declared.record.RecordNo.{RecordNo}
 use Rattle.opening.specs.declared.levels.Verdict.{Verdict}
 use Rattle.opening.specs.declared.levels.Verdict.the-variants as tree
-use Rattle.opening.specs.declared.open.Opening.{Opening}
 use Rattle.opening.specs.declared.open.Opening.the-variants as found
 use Rattle.tree.specs.Records.{startOf, endOf, records}
 use Rattle.opening.specs.Check.{Finding, fine, bad, deep, _then_, keeps, along, level, verdictAs, checked}

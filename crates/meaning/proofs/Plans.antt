@@ -11,7 +11,7 @@ use Rattle.meaning.specs.Pieces.{Piece, flat}
 use Rattle.meaning.specs.Outcome.{Outcome, done, refused}
 use Rattle.meaning.specs.Calls.{step}
 use Rattle.meaning.specs.World.{World, world, capacity, Result, result, made}
-use Rattle.meaning.specs.Plan.{Plan, nothing, make, refuse, _then_, callsOf, goOn, exec, Ran}
+use Rattle.meaning.specs.Plan.{Plan, nothing, make, refuse, _then_, callsOf, goOn, exec}
 
 module _ (x : Script) where
   -- a refusal is sticky

@@ -8,7 +8,7 @@ use Rattle.tree.specs.Records.{spanOf}
 use Rattle.meaning.specs.declared.answer.Refusal.the-variants.{TreeBad, WrongKind}
 use Rattle.meaning.specs.declared.answer.Answer.{Answer}
 use Rattle.meaning.specs.declared.answer.Answer.the-variants.{Done, Refused}
-use Rattle.meaning.specs.State.{Script, Comment, State}
+use Rattle.meaning.specs.State.{Script, Comment}
 use Rattle.meaning.specs.World.{World, world, callRecord}
 use Rattle.meaning.specs.Plan.{Plan, nothing, refuse, run}
 use Rattle.meaning.specs.Numbers.{Seen, _from_, seen}

@@ -17,8 +17,8 @@ use Rattle.opening.specs.declared.levels.Next.{Next}
 use Rattle.opening.specs.declared.levels.Next.the-variants as next
 use Rattle.opening.specs.declared.levels.Walked.{Walked}
 use Rattle.opening.specs.declared.levels.Walked.the-variants as walked
-use Rattle.tree.specs.Records.{four, bodyOf, cutRecord, recordOf, recordAt, recordsFrom, records, startOf, endOf}
-use Rattle.opening.specs.Check.{Finding, fine, bad, deep, _then_, keeps, along, level, verdictAs, checked}
+use Rattle.tree.specs.Records.{four, bodyOf, cutRecord, recordOf, recordsFrom, records, startOf, endOf}
+use Rattle.opening.specs.Check.{Finding, bad, _then_, keeps, along, level, verdictAs, checked}
 use Rattle.opening.specs.Walk.{headOf, nextOf, insideOf, behindOf, Holds, recordsOf, findingOf, Walk}
 use Rattle.tree.proofs.RecordLaws.{wholeOf, records-in, split, fits}
 use Rattle.white.proofs.Bools.{le-or-lt}

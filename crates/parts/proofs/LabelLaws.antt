@@ -1,5 +1,5 @@
 -- Laws of labels and jumps: a turn takes a record, and `continue` takes no value. Assumes nothing.
-use Rattle.steps.proofs.Rules.{_≡_, refl, _∙_, Bool, false, not, List, [], _∷_, ℕ, eqb, ne-eqb, Record, Kind, byteOf, Ws, make, Stream, nextIn}
+use Rattle.steps.proofs.Rules.{_≡_, refl, _∙_, Bool, false, List, [], _∷_, ℕ, ne-eqb, Record, Kind, byteOf, Ws, make, Stream, nextIn}
 use Rattle.steps.proofs.Rules.{nextIs, _▸_, call, write, pump, is, putRemaining, Falls, pump-takes, put-leaves, plain-leaves, plain-takes, _takes-then_}
 use Rattle.steps.proofs.Rules.{_leaves-then_, taking-falls, RecordNo, takeIf, takeAny, true, _||_, sym, arith, Script, Engine, Goes, _▹_, done, starts, eaten-not}
 use Rattle.walk.proofs.StreamLaws.{took-not}

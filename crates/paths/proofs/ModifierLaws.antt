@@ -1,5 +1,5 @@
 -- Laws of modifiers: the rule by the byte of the kind, and the space between them. Assumes nothing.
-use Rattle.steps.proofs.Rules.{_≡_, refl, sym, subst, _∙_, Bool, true, false, cond, _||_, List, _⊎_, inl, inr, ℕ, zero, suc, _+_, _-_, _<_, _≤_}
+use Rattle.steps.proofs.Rules.{_≡_, refl, sym, subst, _∙_, Bool, true, false, _||_, List, _⊎_, inl, inr, ℕ, zero, suc, _+_, _-_, _<_, _≤_}
 use Rattle.steps.proofs.Rules.{arith, eqb, ne-eqb, Record, RecordNo, nodeOf, byteOf, factsOf, Ws, WrongKind, Script, make, refuse, _then_, Engine}
 use Rattle.steps.proofs.Rules.{engine, Makes, Refuses, write, parse, pump-takes, Each}
 use Rattle.lent.proofs.MadeLaws as made

@@ -1,6 +1,6 @@
 -- Attributes and modifiers: format.rs 64 to 134. Assumes nothing.
 use Prim.Native.Nat.{ℕ}
-use mathlib.Core.Bool.{Bool, true, false, cond, _||_}
+use mathlib.Core.Bool.{Bool, true, cond, _||_}
 use mathlib.Core.List.{List}
 use Rattle.tree.specs.declared.record.Record.{Record}
 use Rattle.tree.specs.declared.record.RecordNo.{RecordNo}
@@ -10,7 +10,7 @@ use Rattle.meaning.specs.declared.call.Call.the-variants.{Comments, Nl, Ws}
 use Rattle.meaning.specs.declared.answer.Refusal.the-variants.{WrongKind}
 use Rattle.meaning.specs.Plan.{Plan, nothing, make, refuse, _then_}
 use Rattle.walk.specs.Stream.{Stream}
-use Rattle.walk.specs.Flow.{Flow, flow, _▸_, call, write, pump, expect, eat, is, parse}
+use Rattle.walk.specs.Flow.{Flow, _▸_, call, write, pump, expect, eat, is, parse}
 use Rattle.walk.specs.Loop.{loop}
 use Rattle.steps.specs.Seen.{each, lastly}
 use Rattle.paths.specs.Path.{path}

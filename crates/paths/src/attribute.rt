@@ -10,6 +10,7 @@ ghost use Rattle.walk.specs.Stream.{tree};
 ghost use Rattle.walk.specs.Flow.{Walked};
 ghost use Rattle.paths.specs.Attribute.{innerAttributes, attributes};
 
+// format.rs 64 to 71.
 pub fn inner_attributes(
     src: &[u8],
     table: &[u32],
@@ -26,6 +27,7 @@ pub fn inner_attributes(
     }
 }
 
+// format.rs 73 to 83.
 pub fn attributes(
     src: &[u8],
     table: &[u32],

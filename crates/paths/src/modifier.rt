@@ -81,6 +81,7 @@ fn apart(
     }
 }
 
+// One modifier, by its kind: format.rs 90 to 128.
 fn modifier(
     src: &[u8],
     table: &[u32],
@@ -133,6 +134,7 @@ fn modifier_list(
     left_over(table, fmt, &p);
 }
 
+// The node of all modifiers, if it is next: format.rs 85 to 134.
 pub fn modifiers(
     src: &[u8],
     table: &[u32],

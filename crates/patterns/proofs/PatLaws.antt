@@ -1,8 +1,8 @@
 -- Laws of the rules of patterns: the ends of tuples and objects, that a turn takes a record, and the depth that is left. Assumes nothing.
-use Rattle.steps.proofs.Rules.{_≡_, refl, Bool, true, false, not, cond, _||_, List, [], _∷_, ℕ, zero, suc, _+_, _-_, _<_, _≤_, length, arith, Record}
+use Rattle.steps.proofs.Rules.{_≡_, refl, Bool, true, false, not, List, [], _∷_, ℕ, zero, suc, _+_, _-_, _<_, _≤_, length, arith, Record}
 use Rattle.steps.proofs.Rules.{RecordNo, Kind, byteOf, Infix, Comments, Ws, TreeDeep, Script, Plan, nothing, make, refuse, _then_, Engine, engine}
-use Rattle.steps.proofs.Rules.{Makes, Refuses, Stream, stream, isByte, nextIn, nextIs, takeIf, Flow, flow, _▸_, plain, call, write, pump, expectByte}
-use Rattle.steps.proofs.Rules.{is, expect, eat, ifNext, either, parse, Goes, Remaining, fmt, ignore, says, Few, fewOf, more, Place, place, turn, _▹_}
+use Rattle.steps.proofs.Rules.{Makes, Refuses, Stream, stream, nextIn, nextIs, takeIf, _▸_, write, pump, expectByte}
+use Rattle.steps.proofs.Rules.{is, eat, ifNext, either, parse, Goes, Remaining, fmt, ignore, says, Few, fewOf, more, Place, place, turn, _▹_}
 use Rattle.steps.proofs.Rules.{steady, Falls, Takes, Leaves, pump-leaves, expect-leaves, plain-leaves, next-leaves, _leaves-then_, plain-takes}
 use Rattle.steps.proofs.Rules.{turn-falls}
 use Rattle.lent.proofs.MadeLaws as made

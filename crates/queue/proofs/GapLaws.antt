@@ -1,12 +1,8 @@
 -- Gaps before and behind comments, as the code makes them. Assumes nothing.
-use Rattle.text.proofs.Base.{_≡_, refl, sym, ap, _∙_, List, [], _∷_, _++_, Bool, true, false, cond, ℕ, zero, suc, _+_, _<_, _≤_, arith, length, eqb}
-use Rattle.text.proofs.Base.{leb, ltb, eq-eqb, ne-eqb}
-use borrow.Author.Tests.{le-leb, lt-leb}
-use Rattle.tree.specs.{declared.record.Record.Record, declared.record.RecordNo.RecordNo}
-use Rattle.meaning.specs.{declared.answer.Refusal.the-variants.Finished, declared.answer.Refusal.the-variants.NoNode, declared.answer.Answer.Answer}
-use Rattle.meaning.specs.{declared.answer.Answer.the-variants.Done, declared.answer.Answer.the-variants.Refused, Pieces.space, Pieces.breaks}
-use Rattle.meaning.specs.{Collect.orElse, Release.lineGap, Release.spaceGap}
-use Rattle.lent.specs.{Run.Run, Run.isRefused, Run.answered, Run.readyAnswer, Run.readyRun, Run.presentAnswer, Run.presentRun}
+use Rattle.text.proofs.Base.{_≡_, refl, [], _∷_, Bool, true, false, ℕ, zero, suc, eqb}
+use Rattle.text.proofs.Base.{ne-eqb}
+use Rattle.meaning.specs.{Pieces.space, Pieces.breaks}
+use Rattle.meaning.specs.{Collect.orElse, Release.lineGap}
 use Rattle.queue.specs.{declared.release.Way.Way, declared.release.Way.the-variants.Lines, declared.release.Way.the-variants.Spaces}
 use Rattle.queue.specs.{Passes.gapOf, Passes.backOf}
 

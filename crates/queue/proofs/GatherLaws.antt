@@ -1,22 +1,20 @@
 -- Collecting: what each record of the tree does to it, and the loop under way. Assumes nothing.
-use Rattle.text.proofs.Base.{_≡_, refl, sym, ap, _∙_, List, [], _∷_, _++_, Bool, true, false, cond, ℕ, zero, suc, _+_, _-_, _<_, _≤_, min, arith}
-use Rattle.text.proofs.Base.{length, drop, take, getD, eqb, leb}
-use mathlib.Core.List.{map, append-nil, append-assoc}
-use native.Mathlib.Nat.{min-eq-left, min-eq-right}
+use Rattle.text.proofs.Base.{_≡_, refl, sym, ap, _∙_, List, [], _∷_, _++_, Bool, true, false, cond, ℕ, zero, suc, _+_, _-_, _<_, _≤_, arith}
+use Rattle.text.proofs.Base.{length, take, eqb}
+use mathlib.Core.List.{append-nil, append-assoc}
 use native.Mathlib.Numerals.{add-one}
 use lib.ListN.{length-append, length-take, drop-of-length-le}
 use lib.Seq.{drop-cons, take-append-le}
-use borrow.Author.Tests.{leb-true, leb-false}
 use Rattle.text.specs.{Span.textOf, Lines.newlines, declared.span.Span.Span}
 use Rattle.tree.specs.{declared.record.Record.Record, Records.cutRecord, Table.nodeOf}
-use Rattle.meaning.specs.{declared.answer.Refusal.Refusal, declared.answer.Refusal.the-variants.QueueFull, declared.answer.Answer.the-variants.Done}
+use Rattle.meaning.specs.{declared.answer.Refusal.Refusal, declared.answer.Refusal.the-variants.QueueFull}
 use Rattle.meaning.specs.{declared.answer.Answer.the-variants.Refused, State.Script, State.Note, State.Comment, State.queued, State.State}
 use Rattle.meaning.specs.{State.withQueue, State.withLines, Outcome.Outcome, Outcome.refused, Collect.Met, Collect.inner, Collect.remark}
 use Rattle.meaning.specs.{Collect.blank, Collect.stop, Collect.metAt, Collect.metOf, Collect.metFrom, Collect.Collected, Collect.full}
 use Rattle.meaning.specs.{Collect.got, Collect.before, Collect.orElse, Collect.collect, Collect.onGot, Collect.collected, Collect.gather}
-use Rattle.lent.specs.{Run.Run, Run.answered, Run.collectedRun, View.tab, View.ringAt, View.queueOf, View.view}
+use Rattle.lent.specs.{Run.Run, Run.answered, Run.collectedRun, View.ringAt, View.queueOf, View.view}
 use Rattle.queue.specs.{Met.asMet, Parts.Gathered}
-use Rattle.queue.specs.{Parts.Collects, Parts.onAnswer}
+use Rattle.queue.specs.{Parts.Collects}
 use Rattle.queue.specs.declared.collect.Met as met
 use Rattle.lent.proofs.TabLaws.{length-tab, take-tab}
 

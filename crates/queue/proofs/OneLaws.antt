@@ -1,20 +1,20 @@
 -- A release where one comment waits: the passes, each of one turn. Assumes nothing.
-use Rattle.text.proofs.Base.{_≡_, refl, sym, ap, List, [], _∷_, _++_, Bool, true, false, ℕ, _+_, _-_, _≤_, arith, length, ltb}
+use Rattle.text.proofs.Base.{_≡_, List, [], _∷_, _++_, Bool, true, false, ℕ, _+_, _-_, _≤_, arith, length, ltb}
 use lib.Seq.{sets}
 use Rattle.meaning.specs.{declared.answer.Refusal.the-variants.NoRoom, declared.answer.Answer.the-variants.Done}
 use Rattle.meaning.specs.{declared.answer.Answer.the-variants.Refused, State.Comment}
 use Rattle.lent.specs.{Run.Run, Run.answered, Run.letOutRun, declared.room.Gap.Gap}
 use Rattle.queue.specs.{declared.release.Way.Way}
 use Rattle.lent.specs.{View.ringAt, View.queueOf}
-use Rattle.queue.specs.{declared.release.Fit.the-variants.Past, declared.release.Fit.the-variants.Goes}
+use Rattle.queue.specs.{declared.release.Fit.the-variants.Goes}
 use Rattle.lent.specs.{View.gapBytes, View.Laid}
 use Rattle.queue.specs.{Passes.stopOf, Passes.frontOf, Passes.backOf, Passes.bytesFrom, Passes.Measured}
 use Rattle.queue.specs.{Parts.LetsOut}
 use Rattle.lent.proofs.{TabLaws.tab-all, TabLaws.tab-none, RingLaws.ring-next}
 use Rattle.queue.proofs.{PassLaws.Put, PassLaws.Measuring, PassLaws.going-stop}
-use Rattle.queue.proofs.{PassLaws.measure-start, PassLaws.measure-turn, PassLaws.measure-over, PassLaws.measure-end, PassLaws.Writing}
+use Rattle.queue.proofs.{PassLaws.measure-start, PassLaws.measure-turn, PassLaws.measure-over, PassLaws.measure-end}
 use Rattle.queue.proofs.{PassLaws.write-start, PassLaws.write-turn, PassLaws.write-end, ReleaseLaws.release-none, ReleaseLaws.release-past}
-use Rattle.queue.proofs.{ReleaseLaws.release-over, ReleaseLaws.release-room, ReleaseLaws.release-few, ReleaseLaws.release-done}
+use Rattle.queue.proofs.{ReleaseLaws.release-over, ReleaseLaws.release-room, ReleaseLaws.release-done}
 
 module _ (src : List ℕ) (w : Way) (q : List ℕ) (run : Run) (b : List ℕ) (open-yet : run .answer ≡ Done) (one : run .count ≡ 1) (inside : run .len ≤ length b) {c : Comment} (ec : c ≡ ringAt q (run .head + 0)) where
   first : queueOf q (run .head + 0) (run .count - 0) ≡ c ∷ queueOf q (run .head + (0 + 1)) (run .count - (0 + 1))

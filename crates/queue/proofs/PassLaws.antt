@@ -1,15 +1,14 @@
 -- A release's two passes over the ring, comment by comment. Assumes nothing.
-use Rattle.text.proofs.Base.{_≡_, refl, sym, ap, _∙_, List, [], _∷_, _++_, Bool, true, false, cond, ℕ, zero, suc, _+_, _-_, _*_, _<_, _≤_, arith}
-use Rattle.text.proofs.Base.{length, ltb, eqb, lt-ltb, le-ltb, ltb-true, ltb-false}
-use mathlib.Core.List.{append-assoc}
+use Rattle.text.proofs.Base.{_≡_, refl, sym, ap, _∙_, List, [], _∷_, _++_, Bool, true, false, cond, ℕ, _+_, _-_, _<_, _≤_, arith}
+use Rattle.text.proofs.Base.{length, ltb, eqb, lt-ltb, le-ltb, ltb-true}
 use native.Mathlib.Nat.{add-zero}
 use lib.ListN.{length-append}
 use lib.Seq.{sets, length-sets}
-use Rattle.meaning.specs.{State.Comment, Release.takeUntil}
-use Rattle.queue.specs.{declared.release.Way.Way, declared.release.Fit.Fit, declared.release.Fit.the-variants.Past}
+use Rattle.meaning.specs.{State.Comment}
+use Rattle.queue.specs.{declared.release.Way.Way, declared.release.Fit.the-variants.Past}
 use Rattle.lent.specs.{declared.room.Gap.Gap, View.gapBytes}
 use Rattle.queue.specs.{declared.release.Fit.the-variants.Goes, Passes.stopOf, Passes.frontOf}
-use Rattle.queue.specs.{Passes.gapOf, Passes.lettersOf, Passes.bytesOn, Passes.bytesFrom, Passes.going, Passes.reach, Passes.fitOf}
+use Rattle.queue.specs.{Passes.gapOf, Passes.lettersOf, Passes.bytesOn, Passes.bytesFrom, Passes.going, Passes.reach}
 use Rattle.queue.specs.{Passes.Measured}
 use Rattle.lent.proofs.WriteLaws.{laid-length, sets-append}
 

@@ -1,26 +1,26 @@
 -- A release, whole: the two passes leave what the meaning's line release or space release leaves. Assumes nothing.
-use Rattle.text.proofs.Base.{_≡_, refl, sym, ap, _∙_, List, [], _∷_, _++_, Bool, true, false, cond, not, _&&_, ℕ, zero, suc, _+_, _-_, _*_, _%_, _<_}
-use Rattle.text.proofs.Base.{_≤_, arith, length, take, drop, ltb, eqb, lt-ltb, le-ltb, ltb-true, ltb-false}
+use Rattle.text.proofs.Base.{_≡_, refl, sym, ap, _∙_, List, [], _∷_, _++_, Bool, true, false, cond, not, _&&_, ℕ, zero, suc, _+_, _-_, _%_, _<_}
+use Rattle.text.proofs.Base.{_≤_, arith, length, take, drop, ltb, eqb, lt-ltb, le-ltb, ltb-true}
 use mathlib.Core.List.{append-assoc, append-nil}
 use native.Mathlib.Nat.{zero-add}
 use lib.ListN.{length-append}
 use lib.Seq.{sets}
 use lib.Dec.{eqb·suc-zero}
 use Rattle.meaning.specs.{declared.answer.Refusal.the-variants.NoRoom, declared.answer.Answer.Answer, declared.answer.Answer.the-variants.Done}
-use Rattle.meaning.specs.{declared.answer.Answer.the-variants.Refused, State.Comment, State.State, State.withQueue, State.withLen, Pieces.Piece}
-use Rattle.meaning.specs.{Pieces.gap, Pieces.comment, Pieces.bytesOf, Pieces.flat, Pieces.Emit, Pieces.emit, Outcome.done, Outcome.refused}
+use Rattle.meaning.specs.{declared.answer.Answer.the-variants.Refused, State.Comment, State.State, State.withQueue, State.withLen}
+use Rattle.meaning.specs.{Pieces.gap, Pieces.flat}
 use Rattle.meaning.specs.{Outcome.refuseIf, Release.takeUntil, Release.dropUntil, Release.isNil, Release.isEmpty, Release.commentText}
 use Rattle.meaning.specs.{Release.stopLine, Release.stopSpace, Release.lineGap, Release.trimmed, Release.linePieces, Release.spaceGap}
 use Rattle.meaning.specs.{Release.spacePieces, Release.behindGap, World.world, World.result, World.made}
 use Rattle.meaning.proofs.Laws.{flat-append}
-use Rattle.lent.specs.{Run.Run, Run.isRefused, Run.answered, Run.letOutRun, declared.room.Gap.Gap}
+use Rattle.lent.specs.{Run.Run, Run.answered, Run.letOutRun, declared.room.Gap.Gap}
 use Rattle.queue.specs.{declared.release.Way.Way}
 use Rattle.queue.specs.{declared.release.Way.the-variants.Lines, declared.release.Way.the-variants.Spaces}
 use Rattle.lent.specs.{View.tab, View.ringAt, View.queueOf}
 use Rattle.queue.specs.{declared.release.Fit.the-variants.Past, declared.release.Fit.the-variants.Goes}
 use Rattle.lent.specs.{View.view, View.resultOf, View.gapBytes, View.Laid}
 use Rattle.queue.specs.{Passes.releaseOf, Passes.stopOf, Passes.frontOf, Passes.backOf}
-use Rattle.queue.specs.{Passes.bytesOn, Passes.bytesFrom, Passes.going, Passes.reach, Passes.written, Passes.fitOf, Passes.Measured}
+use Rattle.queue.specs.{Passes.bytesOn, Passes.bytesFrom, Passes.going, Passes.reach, Passes.written, Passes.Measured}
 use Rattle.queue.specs.{Parts.LetsOut, Parts.settles, Parts.onward}
 use Rattle.lent.proofs.{WriteLaws.sets-append, WriteLaws.gap-length, TabLaws.length-tab, TabLaws.drop-tab, TabLaws.take-tab}
 use Rattle.lent.proofs.{RingLaws.head-mod}

@@ -1,5 +1,5 @@
 -- Steps from a result on: a refusal stays, and an open engine goes on. Assumes nothing.
-use Rattle.text.proofs.Base.{_≡_, refl, sym, ap, _∙_, Bool, true, false, List, ℕ, arith, length, leb, ltb}
+use Rattle.text.proofs.Base.{_≡_, refl, sym, _∙_, Bool, true, false, List, ℕ, arith, length, leb, ltb}
 use Rattle.tree.specs.declared.record.RecordNo.{RecordNo}
 use Rattle.meaning.specs.{declared.call.Call.Call, declared.answer.Refusal.Refusal, declared.answer.Refusal.the-variants.Finished}
 use Rattle.meaning.specs.{declared.answer.Refusal.the-variants.NoNode, declared.answer.Refusal.the-variants.NoRoom, declared.answer.Answer.Answer}
@@ -7,7 +7,7 @@ use Rattle.meaning.specs.{declared.answer.Answer.the-variants.Done, declared.an
 use Rattle.meaning.specs.{Pieces.Piece, Pieces.Emit, Outcome.Outcome, Outcome.done, Outcome.refuseIf, Calls.act, Calls.no-node, Calls.a-node}
 use Rattle.meaning.specs.{Calls.namedBy, Calls.ifThere, Calls.step, World.World, World.world, World.capacity, World.Result, World.result, World.made}
 use Rattle.meaning.specs.{Plan.make, Plan.goOn, Plan.exec}
-use Rattle.lent.specs.{Run.Run, Run.isRefused, Run.answered, Run.movedRun, Run.readyAnswer, Run.readyRun, Run.presentAnswer, Run.presentRun}
+use Rattle.lent.specs.{Run.Run, Run.isRefused, Run.readyAnswer, Run.readyRun, Run.presentAnswer, Run.presentRun}
 use Rattle.lent.specs.{View.view, View.resultOf}
 use Rattle.queue.specs.{Parts.onward, Parts.settles}
 

@@ -1,6 +1,4 @@
 -- What a record is to the collector, as the code says it. Assumes nothing.
-use mathlib.Core.Bool.{Bool}
-use Prim.Native.Nat.{ℕ}
 use Rattle.text.specs.declared.span.Span.{Span}
 use Rattle.meaning.specs.Collect.{Met, inner, remark, blank, stop}
 use Rattle.queue.specs.declared.collect.Met as met

@@ -38,6 +38,7 @@ fn newlines_in(src: &[u8], span: Span) -> u32
     count_newlines(part(src, span)) as u32
 }
 
+// `write_comment`'s questions to a record: output.rs 332 to 359.
 fn met_at(src: &[u8], r: Record) -> Met
     ensures { λ e. ⌜ asMet (r .span) e ≡ metOf (now (src .entry)) r ⌝ }
 {

@@ -1,7 +1,6 @@
 -- Runs: the rule that a node's kind names. Assumes nothing.
 use Prim.Native.Nat.{ℕ}
 use mathlib.Core.Bool.{false, cond}
-use mathlib.Core.List.{List}
 use lib.ListN.{length}
 use lib.Dec.{eqb, leb, ltb}
 use Rattle.tree.specs.declared.record.RecordNo.{RecordNo}

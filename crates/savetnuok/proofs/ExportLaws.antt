@@ -7,7 +7,6 @@ use native.Mathlib.Omega.{arith}
 use lib.ListN.{length, getD}
 use lib.Dec.{eqb}
 use borrow.Author.Tests.{eqb-true, leb-true, eq-eqb, ne-eqb}
-use Rattle.tree.specs.Records.{records}
 use Rattle.opening.specs.Opening.{opened}
 use Rattle.entry.specs.declared.state.State as code
 use Rattle.entry.specs.declared.state.Step.{Step}

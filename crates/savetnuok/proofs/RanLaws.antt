@@ -1,5 +1,5 @@
 -- A run in place, over words and a ring that were read from the state's bytes: what it leaves is what the run by value leaves. Assumes nothing.
-use Rattle.text.proofs.Base.{_≡_, refl, sym, ap, _∙_, Bool, true, false, List, ℕ, length}
+use Rattle.text.proofs.Base.{_≡_, sym, ap, _∙_, Bool, true, false, List, ℕ, length}
 use Rattle.meaning.specs.State.{Script}
 use Rattle.meaning.specs.declared.answer.Answer.{Answer}
 use Rattle.meaning.specs.Opening.{scriptIn, opening}

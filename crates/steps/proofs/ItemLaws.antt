@@ -1,15 +1,15 @@
 -- Laws of lists: the steps of a turn, that a turn takes a record, and lists under way. Assumes nothing.
-use Rattle.text.proofs.Base.{_≡_, refl, sym, ap, _∙_, Bool, true, false, cond, List, [], _∷_, ℕ, suc, _<_, _≤_, arith, length}
+use Rattle.text.proofs.Base.{_≡_, refl, ap, Bool, true, false, List, ℕ, _<_, arith, length}
 use Rattle.tree.specs.{declared.record.Record.Record, declared.record.RecordNo.RecordNo}
 use Rattle.meaning.specs.{declared.call.Hint.the-variants.Prefix, declared.call.Hint.the-variants.Infix, declared.call.Call.the-variants.Comments}
-use Rattle.meaning.specs.{declared.call.Call.the-variants.Ws, State.Script, Plan.Plan, Plan.nothing, Plan.make, Plan._then_}
+use Rattle.meaning.specs.{declared.call.Call.the-variants.Ws, State.Script, Plan.Plan, Plan.make, Plan._then_}
 use Rattle.lent.specs.Loans.{Engine, Makes}
 use Rattle.lent.proofs.MadeLaws as made
 use Rattle.steps.specs.declared.remaining.Mark.the-variants.{Comma}
 use Rattle.steps.specs.declared.remaining.Remaining as code
-use Rattle.walk.specs.Stream.{Stream, nextIn, nextIs, takeIn, takeIf}
-use Rattle.walk.specs.Flow.{Flow, _▸_, plain, pump, Goes}
-use Rattle.steps.specs.Remaining.{Remaining, Fresh, isMark, fmt, ignore, says, restIf, remaining, remainingOf, RestsWith}
+use Rattle.walk.specs.Stream.{Stream, nextIs}
+use Rattle.walk.specs.Flow.{Flow, _▸_, pump, Goes}
+use Rattle.steps.specs.Remaining.{Remaining, Fresh, fmt, ignore, says, remaining, remainingOf, RestsWith}
 use Rattle.steps.specs.Items.{Few, Zero, Place, place, more, item, rested, behind, turn, begin, items, separated, listed, suffix, closing}
 use Rattle.steps.specs.Items.{closed, list}
 use Rattle.walk.proofs.{FlowLaws._▹_, FlowLaws.steady, LoopLaws.Falls, LoopLaws.Going, LoopLaws.starts, LoopLaws.goes-on, LoopLaws.done}

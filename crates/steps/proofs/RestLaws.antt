@@ -1,9 +1,9 @@
 -- Laws of a token that may be missing. Assumes nothing.
-use Rattle.text.proofs.Base.{_≡_, refl, ap, subst, Bool, true, false, cond, _||_, List, ℕ, _≤_, _<_, arith, eqb, ltb, lt-ltb, le-ltb, eq-eqb, ne-eqb}
+use Rattle.text.proofs.Base.{_≡_, refl, ap, subst, Bool, true, false, cond, List, ℕ, _≤_, _<_, arith, eqb, ltb, lt-ltb, le-ltb, eq-eqb, ne-eqb}
 use Rattle.tree.specs.{declared.record.Record.Record, declared.record.RecordNo.RecordNo}
 use Rattle.tree.proofs.Laws.{found-is, found-not}
 use Rattle.kinds.specs.Facts.{byteOf}
-use Rattle.meaning.specs.{declared.call.Literal.Literal, declared.call.Call.the-variants.Lit, State.Script, Plan.Plan, Plan.nothing, Plan.make}
+use Rattle.meaning.specs.{declared.call.Literal.Literal, declared.call.Call.the-variants.Lit, State.Script, Plan.Plan, Plan.make}
 use Rattle.meaning.specs.{Plan._then_}
 use Rattle.lent.specs.Loans.{Engine, engine, Makes, Refuses}
 use Rattle.lent.proofs.MadeLaws as made

@@ -6,7 +6,7 @@ use Rattle.meaning.specs.Plan.{Plan}
 use Rattle.steps.specs.{declared.remaining.Mark.Mark}
 use Rattle.walk.specs.{Stream.Stream, Stream.isByte, Stream.nextIn, Stream.nextIs, Stream.takeIn, Stream.takeIf}
 use Rattle.steps.specs.{Remaining.isMark}
-use Rattle.walk.specs.{Flow.Flow, Flow._▸_, Flow.plain, Flow.pump, Flow.expectByte, Flow.eatByte, Flow.ifNext}
+use Rattle.walk.specs.{Flow.Flow, Flow._▸_, Flow.plain, Flow.pump, Flow.expectByte, Flow.ifNext}
 use Rattle.steps.specs.{Remaining.restIf, Remaining.remaining, Remaining.putRemaining}
 use Rattle.walk.proofs.LoopLaws.{Falls}
 

@@ -31,12 +31,14 @@ pub enum Mark {
 // The token's record, 8,192 where it is missing, 8,193 before the first item of a list.
 pub struct Remaining(pub u32);
 
+// The one before any was looked for: the Rust's `Remaining::default`.
 pub fn fresh() -> Remaining
     ensures { λ r. ⌜ r ≡ record { 0 = 8193 } ⌝ }
 {
     Remaining(8193)
 }
 
+// The byte of the token that is looked for.
 fn byte_of(mark: Mark) -> u8
     ensures { λ r. ⌜ r ≡ byteOf (tokenOf mark) ⌝ }
 {
@@ -48,6 +50,7 @@ fn byte_of(mark: Mark) -> u8
     }
 }
 
+// What is written where it is missing.
 fn literal_of(mark: Mark) -> Literal
     ensures { λ r. ⌜ r ≡ literalOf mark ⌝ }
 {

@@ -3,12 +3,12 @@ use mathlib.Core.Path.{_≡_, refl, ap, _∙_}
 use mathlib.Core.Logic.{⊎-elim}
 use mathlib.Core.Bool.{Bool, true, false, cond}
 use mathlib.Core.List.{List, [], _++_}
-use Prim.Native.Nat.{ℕ, suc, _+_, _-_, _≤_, min}
-use native.Mathlib.Nat.{le-of-lt, min-eq-left, min-eq-right, min-le-left, min-le-right, max-eq-left, max-eq-right, max-le, le-max-left}
+use Prim.Native.Nat.{ℕ, _+_, _-_, _≤_}
+use native.Mathlib.Nat.{le-of-lt, min-eq-left, min-eq-right, min-le-left, max-eq-left, max-eq-right, max-le, le-max-left}
 use native.Mathlib.Omega.{arith}
 use lib.Dec.{leb, ltb}
 use lib.ListN.{length, replicate, length-take, length-drop}
-use borrow.Author.Tests.{leb-true, le-leb, ltb-true, ltb-false, lt-ltb, le-ltb}
+use borrow.Author.Tests.{leb-true, le-leb, ltb-false}
 use Rattle.text.specs.declared.span.Span.{Span}
 use Rattle.unicode.specs.declared.utf8.Formed.{Formed}
 use Rattle.unicode.specs.declared.utf8.Formed.the-variants.{Well, Ill}

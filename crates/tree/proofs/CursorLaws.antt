@@ -19,7 +19,7 @@ use Rattle.tree.specs.declared.cursor.Found.the-variants.{At, None}
 use Rattle.tree.specs.declared.cursor.Taken.{Taken}
 use Rattle.tree.specs.Records.{cutRecord}
 use Rattle.tree.specs.Table.{nodeOf}
-use Rattle.tree.specs.Cursor.{foundOf, siblings, shown, passes, kept, behind, cursorOf, childrenOf, headOf, peekOf, firstOf, takenAs, isNone, eofOf}
+use Rattle.tree.specs.Cursor.{foundOf, siblings, shown, passes, kept, behind, cursorOf, childrenOf, headOf, peekOf, firstOf, takenAs}
 use Rattle.white.proofs.Bools.{le-or-lt}
 use Rattle.tree.proofs.RecordLaws.{drop-take}
 

@@ -6,7 +6,7 @@ use Prim.Native.Nat.{ℕ, zero, suc, _+_, _-_, _*_, _/_, _%_, _≤_, _<_, min}
 use native.Mathlib.Nat.{sub-zero, le-of-lt, min-eq-left, min-eq-right, mod-eq-of-lt}
 use native.Mathlib.Omega.{arith}
 use lib.Dec.{ltb}
-use lib.ListN.{length, take, drop, getD, set, length-append, length-take, take-append-drop, List·getD-eq-default}
+use lib.ListN.{length, take, drop, getD, set, length-append, take-append-drop, List·getD-eq-default}
 use lib.Seq.{sets-eq, take-all, take-at, drop-at, length-take-le, take-nil, drop-drop, getD-drop}
 use borrow.Author.Tests.{lt-ltb, le-ltb, ltb-true}
 use Rattle.tree.specs.declared.record.Record.{Record}

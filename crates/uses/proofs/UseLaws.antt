@@ -1,5 +1,5 @@
 -- Laws of uses: whether a group has one path, its braces, the depth that is left. Assumes nothing.
-use Rattle.steps.proofs.Rules.{_≡_, refl, sym, ap, _∙_, Bool, true, false, not, cond, List, [], _∷_, _⊎_, inl, inr, ℕ, zero, suc, _-_, _<_, arith}
+use Rattle.steps.proofs.Rules.{_≡_, refl, sym, ap, _∙_, Bool, true, false, not, List, [], _∷_, _⊎_, inl, inr, ℕ, zero, suc, _-_, _<_, arith}
 use Rattle.steps.proofs.Rules.{length, Record, RecordNo, Kind, TreeDeep, Script, Plan, refuse, Engine, engine, Makes, Refuses, Stream, recordsOf}
 use Rattle.steps.proofs.Rules.{nextIn, nextIs, takeIn, takeIf, takeAny, Ate, _▸_, write, ignored, pump, expect, is, Goes, Few, Zero, One, Many, more}
 use Rattle.steps.proofs.Rules.{list, pump-takes}

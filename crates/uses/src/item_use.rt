@@ -28,6 +28,7 @@ ghost use Rattle.walk.specs.Stream.{tree};
 ghost use Rattle.walk.specs.Flow.{Walked, parse};
 ghost use Rattle.uses.specs.Use.{usePart, usePath, useGroup, itemUse};
 
+// format.rs 1496 to 1542.
 pub fn item_use_group(
     src: &[u8],
     table: &[u32],
@@ -113,6 +114,7 @@ pub fn use_node(
     left_over(table, fmt, &p);
 }
 
+// format.rs 1464 to 1468.
 pub fn item_use(
     src: &[u8],
     table: &[u32],

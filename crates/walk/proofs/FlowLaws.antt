@@ -1,5 +1,5 @@
 -- Steps one after the other, in the order of the code. Assumes nothing.
-use Rattle.text.proofs.Base.{_≡_, refl, sym, ap, _∙_, Bool, true, false, List, [], _∷_, ℕ, _≤_, _<_, length}
+use Rattle.text.proofs.Base.{_≡_, refl, sym, ap, _∙_, Bool, true, false, List, ℕ, length}
 use Rattle.tree.specs.{declared.record.Record.Record, declared.record.RecordNo.RecordNo, declared.cursor.Found.Found}
 use Rattle.tree.specs.{declared.cursor.Found.the-variants.At, declared.cursor.Found.the-variants.None, Cursor.foundOf}
 use Rattle.tree.proofs.Laws.{found-is, found-not}
@@ -7,8 +7,8 @@ use Rattle.meaning.specs.{declared.answer.Refusal.Refusal, declared.answer.Refu
 use Rattle.meaning.specs.{Plan.refuse, Plan._then_}
 use Rattle.lent.specs.Loans.{Engine, engine, Makes, Refuses}
 use Rattle.lent.proofs.MadeLaws as made
-use Rattle.walk.specs.Stream.{Stream, recordsOf, isByte, isSome, Peeked, met, Took, takeIf, takeAny, Ate}
-use Rattle.walk.specs.Flow.{Flow, flow, _▸_, plain, given, onFound, notMet, pump, expectByte, eatByte, leftOver, parse, Goes, Got}
+use Rattle.walk.specs.Stream.{Stream, recordsOf, isByte, isSome, Peeked, Took, takeIf, takeAny, Ate}
+use Rattle.walk.specs.Flow.{Flow, _▸_, plain, given, onFound, notMet, pump, expectByte, eatByte, leftOver, parse, Goes, Got}
 use Rattle.walk.proofs.StreamLaws.{some-is, some-not, found-same, left-at, left-none, none-stays}
 
 -- ---- steps

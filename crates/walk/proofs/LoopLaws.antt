@@ -1,7 +1,7 @@
 -- A loop under way: what is left to do from here, done now, gives what the whole gives from the start. Assumes nothing.
 use Rattle.text.proofs.Base.{_≡_, refl, sym, ap, _∙_, Bool, true, false, cond, List, [], _∷_, ℕ, zero, suc, _<_, _≤_, arith, length}
-use Rattle.meaning.specs.{State.Script, Plan.Plan, Plan.nothing, Plan._then_, Plan.exec}
-use Rattle.lent.specs.Loans.{Engine, reads, Makes}
+use Rattle.meaning.specs.{State.Script, Plan.nothing, Plan._then_, Plan.exec}
+use Rattle.lent.specs.Loans.{Engine, reads}
 use Rattle.walk.specs.{Stream.Stream, Stream.nextIn, Stream.nextIs, Flow.Flow, Flow.flow, Flow._▸_, Flow.Goes, Loop.turns, Loop.loop}
 
 -- a turn takes a record

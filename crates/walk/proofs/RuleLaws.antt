@@ -1,5 +1,5 @@
 -- Laws of branches in the rules. Assumes nothing.
-use Rattle.text.proofs.Base.{_≡_, refl, sym, ap, _∙_, Bool, true, false, cond, _||_, List, [], _∷_, ℕ, eq-eqb, ne-eqb}
+use Rattle.text.proofs.Base.{_≡_, refl, sym, _∙_, Bool, true, false, cond, List, [], _∷_, ℕ, eq-eqb, ne-eqb}
 use Rattle.tree.specs.{declared.record.Record.Record, Table.nodeOf}
 use Rattle.meaning.specs.{State.Script, Plan.Plan}
 use Rattle.lent.specs.Loans.{Engine, Makes}

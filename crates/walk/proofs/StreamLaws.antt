@@ -1,5 +1,5 @@
 -- Laws of the stream's words: what the next record is, and what taking it leaves. Assumes nothing.
-use Rattle.text.proofs.Base.{_≡_, refl, sym, ap, _∙_, Bool, true, false, cond, List, [], _∷_, ℕ, zero, suc, _+_, _≤_, _<_, min, arith, lt-ltb, le-ltb}
+use Rattle.text.proofs.Base.{_≡_, refl, sym, ap, _∙_, Bool, true, false, cond, List, [], _∷_, ℕ, suc, _+_, _≤_, _<_, min, arith}
 use Rattle.text.proofs.Base.{ltb-true, ltb-false, length, getD, ltb, eqb}
 use lib.ListN.{set}
 use lib.Seq.{getD-set-same, getD-set-other}
@@ -7,7 +7,7 @@ use Rattle.tree.specs.{declared.record.Record.Record, declared.record.RecordNo.
 use Rattle.tree.specs.{declared.cursor.Found.the-variants.At, declared.cursor.Found.the-variants.None, Table.nodeOf, Cursor.foundOf, Cursor.shown}
 use Rattle.tree.specs.{Cursor.kept, Cursor.behind, Cursor.cursorOf, Cursor.childrenOf, Cursor.peekOf, Cursor.headOf}
 use Rattle.tree.proofs.Laws.{peek-at, peek-none, found-is, found-not, shown-past, behind-within}
-use Rattle.walk.specs.Stream.{Stream, stream, no, recordsOf, isByte, isSome, nextIn, nextIs, nextOf, metIn, met, Took, takeIn, takeIf, takeAny}
+use Rattle.walk.specs.Stream.{Stream, stream, no, recordsOf, isByte, isSome, nextIn, nextIs, nextOf, metIn, met, takeIn, takeIf, takeAny}
 use Rattle.walk.specs.Stream.{keptBehind, streamAt, passed, Peeked, Ate}
 use Rattle.walk.specs.Flow.{leftIn, leftOver}
 

@@ -1,7 +1,7 @@
 -- A step of a rule: the calls that it makes, and where it leaves the stream, or whatever else the steps hand on. Assumes nothing.
 use mathlib.Core.Path.{_≡_}
 use Prim.Native.Nat.{ℕ}
-use mathlib.Core.Bool.{Bool, true, false, cond, _||_}
+use mathlib.Core.Bool.{Bool, cond, _||_}
 use mathlib.Core.List.{List, [], _∷_}
 use denote.Ref.{now}
 use Rattle.tree.specs.declared.record.Record.{Record}

@@ -39,6 +39,7 @@ pub fn nothing() -> RecordNo
     RecordNo(8192)
 }
 
+// Whether a record was taken, or none.
 pub fn is_some(k: RecordNo) -> bool
     ensures { λ r. ⌜ r ≡ isSome k ⌝ }
 {

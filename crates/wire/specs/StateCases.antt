@@ -7,7 +7,7 @@ use lib.Dec.{eqb}
 use Rattle.tree.specs.Records.{spanOf}
 use Rattle.meaning.specs.State.{Comment, State}
 use Rattle.meaning.specs.Cases.{same, agree}
-use Rattle.wire.specs.Words.{wordAt, inBytes}
+use Rattle.wire.specs.Words.{inBytes}
 use Rattle.wire.specs.StateBytes.{shaped, stateIn, bytesOf}
 
 -- ---- every word has a place of its own: no two of a row are alike, save flags, of which each is set alone once

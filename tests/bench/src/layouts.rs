@@ -86,3 +86,36 @@ pub fn table() {
         row(&scripts);
     }
 }
+
+/// Mean nanoseconds a script of all that a public layout does, and of the Rust's with the
+/// opening checks. A turn goes over all scripts, so that none is laid out whose branches
+/// the processor has just learnt.
+fn in_turn(scripts: &[Script]) -> [f64; 2] {
+    let mut out = vec![0; ROOM];
+    let mut buffer = alloc::String::with_cap(ROOM);
+    let mut opened = |s: &Script| {
+        let tree = opening::open(&s.source, &s.tree).unwrap();
+        rust::layout(s.text(), &tree, &mut buffer).unwrap() as u64
+    };
+    let best = least(
+        ROUNDS,
+        &mut [
+            &mut || scripts.iter().map(|s| layout(s, &mut out)).sum(),
+            &mut || scripts.iter().map(&mut opened).sum(),
+        ],
+    );
+    [best[0] / scripts.len() as f64, best[1] / scripts.len() as f64]
+}
+
+/// Many scripts of each size, one behind the other.
+pub fn turns() {
+    println!("\nWhole layouts, sixteen scripts in turn\n");
+    println!("| bytes  | everything, ns | Rust, opening, ns | ratio |");
+    println!("|--------|----------------|-------------------|-------|");
+    for kib in [1, 2, 4, 8, 16, 32, 64] {
+        let scripts = scripts::all(kib * 1024, 16);
+        let bytes = scripts.iter().map(|s| s.source.len()).sum::<usize>() / scripts.len();
+        let [whole, opened] = in_turn(&scripts);
+        println!("| {bytes:6} | {whole:14.0} | {opened:17.0} | {:5.2} |", whole / opened);
+    }
+}

@@ -22,6 +22,7 @@ const TABLES: &[(&str, fn())] = &[
     ("growth", public::growth),
     ("runs", public::runs),
     ("layouts", layouts::table),
+    ("turns", layouts::turns),
     ("stack", stack::table),
 ];
 

@@ -1,6 +1,6 @@
 -- `calls::write_owned` meets its contract. Assumes nothing.
 use Rattle.text.proofs.Base.{_∙_, refl, sym, needs}
-use Rattle.lent.specs.{Words.runOf, View.scriptOf}
+use Rattle.lent.specs.{View.scriptOf}
 use Rattle.lent.proofs.StopLaws.{goes}
 use Rattle.calls.proofs.{CallLaws.acted-stopped, CallLaws.made-present, NodeLaws.owned-past, NodeLaws.owned-full, NodeLaws.owned-done}
 use Rattle.calls.proofs.{write_owned.Statement.statement}

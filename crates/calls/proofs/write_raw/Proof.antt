@@ -1,6 +1,6 @@
 -- `calls::write_raw` meets its contract. Assumes nothing.
 use Rattle.text.proofs.Base.{_∙_, refl, sym, needs}
-use Rattle.lent.specs.{Words.runOf, View.scriptOf}
+use Rattle.lent.specs.{View.scriptOf}
 use Rattle.lent.proofs.StopLaws.{goes}
 use Rattle.calls.proofs.{CallLaws.acted-stopped, CallLaws.made-present, NodeLaws.raw-past, NodeLaws.raw-full, NodeLaws.raw-done}
 use Rattle.calls.proofs.{write_raw.Statement.statement}

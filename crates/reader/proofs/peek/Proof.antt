@@ -43,7 +43,6 @@ use denote.Exit.{yes}
 use denote.Triple.Clauses.{ensured, lasts}
 use Rattle.tree.specs.Table.{treeOf}
 use Rattle.tree.specs.Cursor.{peekOf}
-use Rattle.tree.specs.declared.cursor.Cursor.{Cursor}
 use Rattle.tree.specs.declared.cursor.Found.{Found}
 use Rattle.reader.specs.declared.Reader.{Reader}
 use Rattle.reader.proofs.Reader as T

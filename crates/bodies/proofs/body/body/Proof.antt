@@ -1,5 +1,5 @@
 -- `bodies::body::body` meets its contract. Assumes nothing.
-use Rattle.steps.proofs.Rules.{sym, _∙_, ne-eqb, byteOf, factsOf, treeOf, nothing-made, pumped, needs}
+use Rattle.steps.proofs.Rules.{sym, _∙_, ne-eqb, byteOf, factsOf, nothing-made, pumped, needs}
 use Rattle.lent.proofs.MadeLaws as made
 use Rattle.bodies.specs.Body.{body}
 use Rattle.bodies.proofs.body.body.Statement.{statement}

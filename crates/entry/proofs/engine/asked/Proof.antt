@@ -1,6 +1,5 @@
 -- `entry::engine::asked` meets its contract. Assumes nothing.
-use Rattle.text.proofs.Base.{ap, needs}
-use Rattle.entry.specs.Served.{asCall, askedPlan}
+use Rattle.text.proofs.Base.{needs}
 use Rattle.lent.proofs.MadeLaws.{keeps}
 use Rattle.entry.proofs.engine.asked.Statement.{statement}
 use Rattle.entry.proofs.engine.asked.Tie as tie

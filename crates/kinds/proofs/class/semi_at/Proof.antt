@@ -1,6 +1,6 @@
 -- `kinds::class::semi_at` meets its contract: at four bytes, and at all others. Assumes nothing.
 use mathlib.Core.Path.{refl, sym}
-use mathlib.Core.Bool.{true, false, not}
+use mathlib.Core.Bool.{true, not}
 use mathlib.Core.List.{[], _∷_}
 use borrow.Author.Tests.{not-true}
 use Rattle.kinds.specs.Facts.{needsSemi, byteOf, factsOf}

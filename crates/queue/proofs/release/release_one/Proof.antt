@@ -1,7 +1,7 @@
 -- `queue::release::release_one` meets its contract. Assumes nothing.
 use Rattle.text.proofs.Base.{_∙_, sym, needs, arith}
 use Rattle.lent.specs.Words.{runOf}
-use Rattle.queue.proofs.{PassLaws.put-of, OneLaws.one-stops, OneLaws.one-past, OneLaws.one-over, OneLaws.one-few, OneLaws.one-done}
+use Rattle.queue.proofs.{PassLaws.put-of, OneLaws.one-stops, OneLaws.one-past, OneLaws.one-over, OneLaws.one-done}
 use Rattle.queue.proofs.{release.release_one.Statement.statement}
 use Rattle.queue.proofs.release.release_one.Tie as tie
 

@@ -1,6 +1,6 @@
 -- `steps::items::before_item` meets its contract. Assumes nothing.
 use Rattle.text.proofs.Base.{needs}
-use Rattle.lent.proofs.MadeLaws.{_▹_, keeps}
+use Rattle.lent.proofs.MadeLaws.{_▹_}
 use Rattle.steps.proofs.{ItemLaws.separated-yes, ItemLaws.separated-no, items.before_item.Statement.statement}
 use Rattle.steps.proofs.items.before_item.Tie as tie
 

@@ -1,6 +1,5 @@
 -- `steps::items::behind_item` meets its contract. Assumes nothing.
 use Rattle.text.proofs.Base.{needs}
-use Rattle.tree.specs.Table.{treeOf}
 use Rattle.steps.proofs.{RestLaws.rests-with, items.behind_item.Statement.statement}
 use Rattle.steps.proofs.items.behind_item.Tie as tie
 

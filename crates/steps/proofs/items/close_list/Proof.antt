@@ -1,6 +1,5 @@
 -- `steps::items::close_list` meets its contract. Assumes nothing.
 use Rattle.text.proofs.Base.{needs}
-use Rattle.lent.proofs.MadeLaws.{keeps}
 use Rattle.steps.proofs.{ItemLaws.closing-yes, ItemLaws.closing-no, items.close_list.Statement.statement}
 use Rattle.steps.proofs.items.close_list.Tie as tie
 

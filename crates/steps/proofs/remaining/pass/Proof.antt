@@ -1,6 +1,5 @@
 -- `steps::remaining::pass` meets its contract. Assumes nothing.
 use Rattle.text.proofs.Base.{needs}
-use Rattle.lent.proofs.MadeLaws.{keeps}
 use Rattle.steps.proofs.{RestLaws.pass-there, RestLaws.pass-not, remaining.pass.Statement.statement}
 use Rattle.steps.proofs.remaining.pass.Tie as tie
 

@@ -1,6 +1,5 @@
 -- `steps::remaining::put` meets its contract. Assumes nothing.
 use Rattle.text.proofs.Base.{needs}
-use Rattle.lent.proofs.MadeLaws.{keeps}
 use Rattle.steps.proofs.{RestLaws.put-there, RestLaws.put-gone, RestLaws.put-fresh, remaining.put.Statement.statement}
 use Rattle.steps.proofs.remaining.put.Tie as tie
 

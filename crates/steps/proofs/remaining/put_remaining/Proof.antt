@@ -1,6 +1,5 @@
 -- `steps::remaining::put_remaining` meets its contract. Assumes nothing.
 use Rattle.text.proofs.Base.{needs}
-use Rattle.tree.specs.Table.{treeOf}
 use Rattle.steps.proofs.{RestLaws.put-rest, remaining.put_remaining.Statement.statement}
 use Rattle.steps.proofs.remaining.put_remaining.Tie as tie
 

@@ -1,5 +1,4 @@
 -- `tree::table::kind_at` meets its contract. Assumes nothing.
-use mathlib.Core.Path.{_∙_, sym, ap}
 use lib.ListN.{length}
 use Rattle.tree.proofs.TableLaws.{kind-in, kind-out, room-le}
 use borrow.Author.Needs.{needs}

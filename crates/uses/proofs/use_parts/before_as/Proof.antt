@@ -1,5 +1,5 @@
 -- `uses::use_parts::before_as` meets its contract. Assumes nothing.
-use Rattle.steps.proofs.Rules.{ap, _∙_, not, ℕ, eqb, byteOf, factsOf, next-at, next-none, needs}
+use Rattle.steps.proofs.Rules.{ap, not, ℕ, eqb, byteOf, factsOf, next-at, next-none, needs}
 use Rattle.uses.proofs.use_parts.before_as.Statement.{statement}
 use Rattle.uses.proofs.use_parts.before_as.Tie as tie
 

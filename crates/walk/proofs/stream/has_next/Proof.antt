@@ -1,7 +1,5 @@
 -- `walk::stream::has_next` meets its contract. Assumes nothing.
-use Rattle.text.proofs.Base.{refl, needs}
-use Rattle.tree.specs.Table.{treeOf}
-use Rattle.walk.specs.Stream.{streamAt}
+use Rattle.text.proofs.Base.{needs}
 use Rattle.walk.proofs.{StreamLaws.any-next, stream.has_next.Statement.statement}
 use Rattle.walk.proofs.stream.has_next.Tie as tie
 

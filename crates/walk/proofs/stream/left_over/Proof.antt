@@ -1,7 +1,5 @@
 -- `walk::stream::left_over` meets its contract. Assumes nothing.
 use Rattle.text.proofs.Base.{needs}
-use Rattle.tree.specs.Table.{treeOf}
-use Rattle.walk.specs.Stream.{streamAt}
 use Rattle.walk.proofs.{FlowLaws.over, FlowLaws.over-none, stream.left_over.Statement.statement}
 use Rattle.walk.proofs.stream.left_over.Tie as tie
 

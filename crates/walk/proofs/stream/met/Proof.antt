@@ -1,7 +1,5 @@
 -- `walk::stream::met` meets its contract. Assumes nothing.
 use Rattle.text.proofs.Base.{_∙_, needs}
-use Rattle.tree.specs.Table.{treeOf}
-use Rattle.walk.specs.Stream.{streamAt}
 use Rattle.walk.proofs.{StreamLaws.met-at, StreamLaws.met-none, stream.met.Statement.statement}
 use Rattle.walk.proofs.stream.met.Tie as tie
 

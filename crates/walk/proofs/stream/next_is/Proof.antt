@@ -1,7 +1,5 @@
 -- `walk::stream::next_is` meets its contract. Assumes nothing.
 use Rattle.text.proofs.Base.{needs}
-use Rattle.tree.specs.Table.{treeOf}
-use Rattle.walk.specs.Stream.{streamAt}
 use Rattle.walk.proofs.{StreamLaws.kind-byte, StreamLaws.next-at, StreamLaws.next-none, stream.next_is.Statement.statement}
 use Rattle.walk.proofs.stream.next_is.Tie as tie
 

@@ -1,5 +1,5 @@
 -- `paths::path::path_part` meets its contract, where the others of its cycle do. Assumes nothing.
-use Rattle.steps.proofs.Rules.{byteOf, factsOf, treeOf, kind-is, kind-other, keeps, needs, arith, ℕ}
+use Rattle.steps.proofs.Rules.{byteOf, factsOf, kind-is, kind-other, keeps, needs, arith, ℕ}
 use Rattle.paths.specs.Path.{pathPart}
 use Rattle.paths.proofs.path.path_part.Reads as path-part
 use Rattle.paths.proofs.path.+path+path_generics+path_part.Lts-path_part as lts
