@@ -62,7 +62,7 @@ extern "C" {
 #define SAVETNUOK_DEPTH_MOST 64       /* levels of a tree; the top level is 1 */
 #define SAVETNUOK_WAITING_MOST 256    /* comments that wait */
 #define SAVETNUOK_INDENT_MOST 64      /* units of indentation, four spaces each */
-#define SAVETNUOK_STACK_SIZE 229376   /* bytes of stack that a layout or run may need: 205,128 were measured */
+#define SAVETNUOK_STACK_SIZE 229376   /* bytes of stack that a layout or run may need: 184,712 were measured */
 #define SAVETNUOK_LAYOUT_ROOM 1572864 /* bytes of a buffer that suffice for a layout, as measured: see there */
 
 /*
