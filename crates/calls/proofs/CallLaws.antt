@@ -36,7 +36,7 @@ use Rattle.lent.proofs.WriteLaws.{laid-length}
 use Rattle.lent.proofs.StopLaws.{goes}
 use Rattle.queue.proofs.StepLaws.{ready-steps, present-call, open-steps, stopped-steps, thenState, then-stopped, then-open, settle-then}
 
--- the onward of a call, from an engine that is open or refused already
+-- the steps of a call, from an engine that is open or refused already
 pub record Acted (x : Script) (c : Call) (run : Run) (q b : List ℕ) (r : Run) (q′ b′ : List ℕ) : Type 0 where
   pub out : resultOf r q′ b′ ≡ onward (λ cap s. act x cap s c) (resultOf run q b)
 

@@ -26,8 +26,8 @@ pub enum Wanted {
     All,
 }
 
-// A record has nine bytes or more: trees of so many bytes fit into tables of 512 and of 2,048 records. Making the full one would be most of
-// the work for a small script.
+// A record has nine bytes or more: trees of so many bytes fit into tables of 512 and of 2,048 records. Making the full one would be a fifth of
+// the time of a small script.
 const TINY: usize = 4608;
 
 const SHORT: usize = 18432;

@@ -25,7 +25,7 @@ pub stopped-steps : (f : ℕ → State → Outcome) (a : Answer) (w : World) →
 unfolding onward
 stopped-steps f a w h = sym (stays a w _ h)
 
--- ---- a change of the state behind onward
+-- ---- a change of the state behind such steps
 
 unfoldable pub thenState : (State → State) → Result → Result
 thenState f r = goOn (r .answer) (r .left) (λ w. result Done (world (f (w .state)) (w .buffer)))
@@ -50,7 +50,7 @@ unfolding onward thenState
 settle-then e f Done w = on-room (ltb (capacity w) (e (w .state) .state .len)) (NoRoom (w .state .len)) w (e (w .state) .state) (e (w .state) .out) f
 settle-then e f (Refused r) w = refl
 
--- ---- 10, then 11, before the onward of a call
+-- ---- 10, then 11, before the steps of a call
 
 ready-at : (t : Bool) (n : ℕ) (w : World) (k : World → Result) (o : Outcome) → k w ≡ made w o → made w (refuseIf t (Finished n) o) ≡ goOn (readyAnswer Done t n) w k
 unfolding refuseIf

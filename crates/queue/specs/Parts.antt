@@ -24,7 +24,7 @@ use Rattle.queue.specs.declared.release.Way.{Way}
 use Rattle.queue.specs.Passes.{releaseOf}
 use Rattle.lent.specs.View.{queueOf, view, resultOf, gapBytes}
 
--- onward that have an outcome, from a result on
+-- steps that have an outcome, from a result on
 unfoldable pub onward : (ℕ → State → Outcome) → Result → Result
 onward f r = goOn (r .answer) (r .left) (λ w. made w (f (capacity w) (w .state)))
 
