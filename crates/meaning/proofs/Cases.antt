@@ -8,7 +8,8 @@ use Rattle.white.specs.White.{mem, whites, isWhite}
 use Rattle.unicode.specs.Utf8.{table, allIn, lenBy, charLen}
 use Rattle.text.specs.Chars.{starts, inSource, code, charsFrom}
 use Rattle.width.specs.Count.{dark, isAtLeast}
-use Rattle.text.specs.Lines.{trim, newlines}
+use Rattle.text.specs.Lines.{newlines}
+use Rattle.text.specs.Trim.{trimFrom}
 use Rattle.tree.specs.Records.{four}
 use Rattle.tree.specs.Table.{nodeOf}
 use Rattle.tree.specs.Cursor as cursor
@@ -30,11 +31,11 @@ use Rattle.meaning.specs.Cases as cases
 
 -- P1 to P10 hold
 pub all-pass : T (cases.allPass cases.table)
-unfolding nodeOf cursor.behind mem whites isWhite table allIn lenBy charLen starts inSource code charsFrom dark trim newlines breaks refuseIf metOf collect gather linePieces spacePieces signed act step lentState serve call isAtLeast cases.calls cases.passes
+unfolding nodeOf cursor.behind mem whites isWhite table allIn lenBy charLen starts inSource code charsFrom dark trimFrom newlines breaks refuseIf metOf collect gather linePieces spacePieces signed act step lentState serve call isAtLeast cases.calls cases.passes
 all-pass = tt
 
 pub more-pass : T (cases.allPass cases.more)
-unfolding nodeOf cursor.behind mem whites isWhite table allIn lenBy charLen starts inSource code charsFrom dark trim newlines breaks refuseIf metOf collect gather linePieces spacePieces signed act step lentState serve call isAtLeast cases.calls cases.passes
+unfolding nodeOf cursor.behind mem whites isWhite table allIn lenBy charLen starts inSource code charsFrom dark trimFrom newlines breaks refuseIf metOf collect gather linePieces spacePieces signed act step lentState serve call isAtLeast cases.calls cases.passes
 more-pass = tt
 
 -- one call record of each kind, with the first and the last value of those that are listed
@@ -100,10 +101,10 @@ start : World
 start = world (cases.engine cases.a [] 0 .state) (0x61 ∷ 0x7E ∷ 0x7E ∷ 0x7E ∷ 0x7E ∷ [])
 
 goes : run Done cases.script start plan .left .buffer ≡ 0x61 ∷ 0x20 ∷ 0x7A ∷ 0x7E ∷ 0x7E ∷ []
-unfolding nodeOf cursor.behind table allIn lenBy charLen starts inSource newlines breaks refuseIf trim metOf collect gather linePieces spacePieces signed act step lentState ready exec run plan start
+unfolding nodeOf cursor.behind table allIn lenBy charLen starts inSource newlines breaks refuseIf trimFrom metOf collect gather linePieces spacePieces signed act step lentState ready exec run plan start
 goes = refl
 
 breaks-off : run Done cases.script start (plan then refuse (WrongKind (cases.record-no 3)) then make Finish)
     ≡ result (Refused (WrongKind (cases.record-no 3))) (world (start .state) (0x61 ∷ 0x00 ∷ 0x00 ∷ 0x00 ∷ 0x00 ∷ []))
-unfolding nodeOf cursor.behind table allIn lenBy charLen starts inSource newlines breaks refuseIf trim metOf collect gather linePieces spacePieces signed act step lentState ready exec run zeroed plan start
+unfolding nodeOf cursor.behind table allIn lenBy charLen starts inSource newlines breaks refuseIf trimFrom metOf collect gather linePieces spacePieces signed act step lentState ready exec run zeroed plan start
 breaks-off = refl

@@ -9,7 +9,7 @@ use Rattle.unicode.specs.declared.utf8.Formed.the-variants.{Well}
 use Rattle.text.specs.Span.{textOf}
 use Rattle.unicode.specs.Utf8.{formed, formedFrom, table, allIn, lenBy, charLen}
 use Rattle.text.specs.Chars.{inSource}
-use Rattle.text.specs.Lines.{trim}
+use Rattle.text.specs.Trim.{trim}
 use Rattle.text.specs.Delete.{delete, deleteFrom, is-space, is-newline, Blanks, no-blank, a-blank}
 use Rattle.text.proofs.Laws.{in-source, text-formed, trim-formed, delete-append, delete-trim, blanks-delete, blanks-formed, blanks-append, blanks-replicate}
 use Rattle.tree.specs.declared.record.Record.{Record}

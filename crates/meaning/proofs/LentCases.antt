@@ -2,7 +2,8 @@
 use lib.Dec.{T}
 use Rattle.unicode.specs.Utf8.{table, allIn, lenBy, charLen}
 use Rattle.text.specs.Chars.{starts, inSource}
-use Rattle.text.specs.Lines.{trim, newlines}
+use Rattle.text.specs.Lines.{newlines}
+use Rattle.text.specs.Trim.{trimFrom}
 use Rattle.tree.specs.Records.{four}
 use Rattle.tree.specs.Table.{nodeOf}
 use Rattle.tree.specs.Cursor as cursor
@@ -18,5 +19,5 @@ use Rattle.meaning.specs.Plan.{exec, zeroed, ready, run}
 use Rattle.meaning.specs.LentCases as lent
 
 pub all-pass : T (lent.allHold lent.table)
-unfolding four nodeOf cursor.behind table allIn lenBy charLen starts inSource trim newlines breaks refuseIf metOf collect gather linePieces spacePieces signed act step decode lentState serveRecord callRecord exec zeroed ready run lent.holdsTrue
+unfolding four nodeOf cursor.behind table allIn lenBy charLen starts inSource trimFrom newlines breaks refuseIf metOf collect gather linePieces spacePieces signed act step decode lentState serveRecord callRecord exec zeroed ready run lent.holdsTrue
 all-pass = tt

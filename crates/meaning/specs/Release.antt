@@ -4,7 +4,7 @@ use mathlib.Core.Bool.{Bool, true, false, not, cond, _&&_}
 use mathlib.Core.List.{List, [], _∷_, _++_}
 use lib.Dec.{ltb, eqb}
 use Rattle.text.specs.Span.{textOf}
-use Rattle.text.specs.Lines.{trim}
+use Rattle.text.specs.Trim.{trim}
 use Rattle.meaning.specs.declared.call.Hint.{Hint}
 use Rattle.meaning.specs.declared.call.Hint.the-variants.{Line, Prefix, Suffix, Infix}
 use Rattle.meaning.specs.State.{Comment, State, withQueue}
@@ -42,7 +42,7 @@ lineGap indent true before = []
 lineGap indent false zero = space ∷ []
 lineGap indent false (suc before) = breaks indent (suc before)
 
--- a line comment without its trailing blanks
+-- a line comment without the White_Space at its end
 abbrev pub trimmed : List ℕ → Comment → List ℕ
 trimmed src c = cond (c .line) (trim (commentText src c)) (commentText src c)
 

@@ -19,8 +19,8 @@ use lent::room::one_space;
 use lent::room::passes;
 use meaning::answer::Answer;
 use meaning::answer::Refusal;
-use text::lines::trimmed;
 use text::span::part;
+use text::trim::trimmed;
 ghost use mathlib.Core.Path.{_≡_};
 ghost use Prim.Native.Nat.{_≤_, _+_};
 ghost use lib.ListN.{length};
@@ -92,7 +92,7 @@ fn gap_before(way: Way, indent: u8, front: bool, len: usize, before: u32) -> Gap
     }
 }
 
-// The comment's text; on lines, a line comment's without its trailing blanks.
+// The comment's text; on lines, a line comment's without the White_Space at its end.
 fn letters(src: &[u8], way: Way, c: Comment) -> &[u8]
     ensures { λ r. ⌜ now r ≡ lettersOf (now (src .entry)) way (asComment c) ⌝ }
 {

@@ -6,7 +6,7 @@ use Rattle.white.specs.White.{mem, whites, isWhite}
 use Rattle.unicode.specs.Utf8.{table, allIn, lenBy, charLen, formedFrom}
 use Rattle.text.specs.Source.{checked}
 use Rattle.text.specs.Chars.{code}
-use Rattle.text.specs.Lines.{trim}
+use Rattle.text.specs.Trim.{trimFrom, trim}
 use Rattle.text.specs.Delete.{deleteFrom, delete}
 
 -- A C0 80; € ED A0 80; A and a cut €; U+1F600; F4 90 80 80
@@ -20,10 +20,20 @@ places : map checked (
 unfolding table allIn lenBy charLen formedFrom checked
 places = refl
 
--- "// n", a space, a newline, a tab, a carriage return: the newline stays, and what is before it
-trims : trim (0x2F ∷ 0x2F ∷ 0x6E ∷ 0x20 ∷ 0x0A ∷ 0x09 ∷ 0x0D ∷ []) ≡ 0x2F ∷ 0x2F ∷ 0x6E ∷ 0x20 ∷ 0x0A ∷ []
-unfolding trim
+-- "// n", a space, a newline, U+3000, a tab, U+0085, U+00A0, a carriage return: all of it goes
+trims : trim (0x2F ∷ 0x2F ∷ 0x6E ∷ 0x20 ∷ 0x0A ∷ 0xE3 ∷ 0x80 ∷ 0x80 ∷ 0x09 ∷ 0xC2 ∷ 0x85 ∷ 0xC2 ∷ 0xA0 ∷ 0x0D ∷ []) ≡ 0x2F ∷ 0x2F ∷ 0x6E ∷ []
+unfolding table allIn lenBy charLen code isWhite mem whites trimFrom
 trims = refl
+
+-- ą and à end in bytes that are blanks by themselves and stay; so does a blank with something behind it
+stays : map trim (
+    (0xC4 ∷ 0x85 ∷ [])
+    ∷ (0xC3 ∷ 0xA0 ∷ 0x20 ∷ [])
+    ∷ (0x2F ∷ 0x2F ∷ 0x0A ∷ 0xE3 ∷ 0x80 ∷ 0x80 ∷ 0x6E ∷ [])
+    ∷ (0x2F ∷ 0x2F ∷ 0xE3 ∷ 0x80 ∷ 0x80 ∷ [])
+    ∷ []) ≡ (0xC4 ∷ 0x85 ∷ []) ∷ (0xC3 ∷ 0xA0 ∷ []) ∷ (0x2F ∷ 0x2F ∷ 0x0A ∷ 0xE3 ∷ 0x80 ∷ 0x80 ∷ 0x6E ∷ []) ∷ (0x2F ∷ 0x2F ∷ []) ∷ []
+unfolding table allIn lenBy charLen code isWhite mem whites trimFrom
+stays = refl
 
 -- a, U+3000, é, U+0085, b: the two of White_Space go, all bytes of each
 deletes : delete (0x61 ∷ 0xE3 ∷ 0x80 ∷ 0x80 ∷ 0xC3 ∷ 0xA9 ∷ 0xC2 ∷ 0x85 ∷ 0x62 ∷ []) ≡ 0x61 ∷ 0xC3 ∷ 0xA9 ∷ 0x62 ∷ []

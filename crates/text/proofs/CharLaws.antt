@@ -1,14 +1,14 @@
 -- Characters of a text: the next one, and its boundaries. Assumes nothing.
 use mathlib.Core.Path.{_≡_, refl, sym, ap, ap₂, _∙_}
 use mathlib.Core.Bool.{Bool, true, false, cond, not, _&&_, _||_, false≢true}
-use mathlib.Core.List.{List, [], _∷_}
+use mathlib.Core.List.{List, [], _∷_, _++_}
 use Prim.Native.Nat.{ℕ, zero, suc, pred, _+_, _*_, _%_, _≤_, _<_}
 use native.Mathlib.Nat.{add-zero}
 use native.Mathlib.Omega.{arith}
 use lib.Dec.{leb, ltb, eqb, eqb·suc-zero, eqb·suc-suc}
-use lib.ListN.{length, drop, getD, drop-of-length-le}
+use lib.ListN.{length, drop, getD, drop-of-length-le, List·getD-append}
 use lib.Seq.{drop-cons, drop-drop, getD-drop}
-use borrow.Author.Tests.{le-leb, lt-leb, leb-true, ltb-true, lt-ltb}
+use borrow.Author.Tests.{le-leb, lt-leb, leb-true, ltb-true, ltb-false, lt-ltb}
 use Rattle.text.specs.declared.chars.Char.{Char}
 use Rattle.unicode.specs.declared.utf8.Formed.{Formed}
 use Rattle.unicode.specs.declared.utf8.Formed.the-variants.{Well}
@@ -56,6 +56,27 @@ pub code-at : (n i : ℕ) (s : List ℕ) → code n (drop i s) ≡
     (getD s i 0 % 8 * 262144 + getD s (i + 1) 0 % 64 * 4096 + getD s (i + 2) 0 % 64 * 64 + getD s (i + 3) 0 % 64)))
 unfolding code
 code-at n i s = simp (getD-drop, add-zero)
+
+-- what stands behind a character makes no difference to its code point
+pub code-append : (n : ℕ) (xs ys : List ℕ) → 0 < length xs → n ≤ length xs → code n (xs ++ ys) ≡ code n xs
+unfolding code
+code-append n xs ys h l = go (ltb n 2) (ltb n 3) (ltb n 4) refl refl refl
+  where
+    same : (i : ℕ) → i < length xs → getD (xs ++ ys) i 0 ≡ getD xs i 0
+    same i m = List·getD-append xs ys 0 i m
+
+    Code : (t u v : Bool) → List ℕ → ℕ
+    Code t u v s =
+        cond t (getD s 0 0)
+        (cond u (getD s 0 0 % 32 * 64 + getD s 1 0 % 64)
+        (cond v (getD s 0 0 % 16 * 4096 + getD s 1 0 % 64 * 64 + getD s 2 0 % 64)
+        (getD s 0 0 % 8 * 262144 + getD s 1 0 % 64 * 4096 + getD s 2 0 % 64 * 64 + getD s 3 0 % 64)))
+
+    go : (t u v : Bool) → ltb n 2 ≡ t → ltb n 3 ≡ u → ltb n 4 ≡ v → Code t u v (xs ++ ys) ≡ Code t u v xs
+    go true u v p q r = same 0 h
+    go false true v p q r = rw (same 0 h, same 1 (omega (arith, ltb-false n 2 p)))
+    go false false true p q r = rw (same 0 h, same 1 (omega (arith, ltb-false n 3 q)), same 2 (omega (arith, ltb-false n 3 q)))
+    go false false false p q r = let m = ltb-false n 4 r in rw (same 0 h, same 1 (omega arith), same 2 (omega arith), same 3 (omega arith))
 
 -- a byte by itself, of code point b and length 1
 abbrev single : ℕ → Char
@@ -143,7 +164,7 @@ seq-by (row ∷ rows) b bs o ne = go (inRange (row .lead) b) (allIn (row .behind
     go true false p q ne r = absurd (ne refl)
     go false u p q ne r = r ne
 
-seq : (b : ℕ) (bs : List ℕ) → (charLen (b ∷ bs) ≡ 0 → ⊥) → Seq b (charLen (b ∷ bs)) bs
+pub seq : (b : ℕ) (bs : List ℕ) → (charLen (b ∷ bs) ≡ 0 → ⊥) → Seq b (charLen (b ∷ bs)) bs
 unfolding charLen table
 seq b bs ne = seq-by table b bs refl ne
 

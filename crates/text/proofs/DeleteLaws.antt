@@ -12,13 +12,14 @@ use Rattle.unicode.specs.declared.utf8.Formed.the-variants.{Well}
 use Rattle.white.specs.White.{mem, whites, isWhite}
 use Rattle.unicode.specs.Utf8.{cont, inRange, charLen, formedFrom, formed}
 use Rattle.text.specs.Chars.{code}
-use Rattle.text.specs.Lines.{trim}
-use Rattle.text.specs.Delete.{onto, darkAt, deleteFrom, delete, Blank, is-space, is-tab, is-return, is-newline, Blanks, no-blank, a-blank}
+use Rattle.text.specs.Delete.{onto, darkAt, deleteFrom, delete, Blank, is-space, is-newline, Blanks, no-blank, a-blank}
 use Rattle.unicode.proofs.RowLaws.{char-le, char-append}
 use Rattle.unicode.proofs.WalkLaws.{plain-char}
-use Rattle.text.proofs.CharLaws.{well-lead}
+use Rattle.text.proofs.CharLaws.{well-lead, code-append}
+use Rattle.text.specs.Trim.{trim}
 use Rattle.text.proofs.FormedLaws.{behind-le, formed-front}
-use Rattle.text.proofs.LineLaws.{trim-ends}
+use Rattle.text.proofs.TrimLaws.{OneWhite, trim-white}
+use Rattle.text.proofs.EndLaws.{Trims, kept, cut, trims}
 
 -- ---- joining
 
@@ -30,26 +31,6 @@ keep-any : (t : Bool) (s : List ℕ) → deleteFrom t 0 s ≡ delete s
 unfolding deleteFrom
 keep-any t [] = refl
 keep-any t (b ∷ bs) = refl
-
-code-append : (n : ℕ) (xs ys : List ℕ) → 0 < length xs → n ≤ length xs → code n (xs ++ ys) ≡ code n xs
-unfolding code
-code-append n xs ys h l = go (ltb n 2) (ltb n 3) (ltb n 4) refl refl refl
-  where
-    same : (i : ℕ) → i < length xs → getD (xs ++ ys) i 0 ≡ getD xs i 0
-    same i m = List·getD-append xs ys 0 i m
-
-    Code : (t u v : Bool) → List ℕ → ℕ
-    Code t u v s =
-        cond t (getD s 0 0)
-        (cond u (getD s 0 0 % 32 * 64 + getD s 1 0 % 64)
-        (cond v (getD s 0 0 % 16 * 4096 + getD s 1 0 % 64 * 64 + getD s 2 0 % 64)
-        (getD s 0 0 % 8 * 262144 + getD s 1 0 % 64 * 4096 + getD s 2 0 % 64 * 64 + getD s 3 0 % 64)))
-
-    go : (t u v : Bool) → ltb n 2 ≡ t → ltb n 3 ≡ u → ltb n 4 ≡ v → Code t u v (xs ++ ys) ≡ Code t u v xs
-    go true u v p q r = same 0 h
-    go false true v p q r = rw (same 0 h, same 1 (omega (arith, ltb-false n 2 p)))
-    go false false true p q r = rw (same 0 h, same 1 (omega (arith, ltb-false n 3 q)), same 2 (omega (arith, ltb-false n 3 q)))
-    go false false false p q r = let m = ltb-false n 4 r in rw (same 0 h, same 1 (omega arith), same 2 (omega arith), same 3 (omega arith))
 
 dark-append : (x : ℕ) (xs ys : List ℕ) → (charLen (x ∷ xs) ≡ 0 → ⊥) → darkAt (x ∷ (xs ++ ys)) ≡ darkAt (x ∷ xs)
 dark-append x xs ys ne = rw (char-append x xs ys ne) (ap (λ (c : ℕ). not (isWhite c)) (code-append (charLen (x ∷ xs)) (x ∷ xs) ys (omega arith) (char-le (x ∷ xs))))
@@ -76,8 +57,6 @@ record Vanishes (b : ℕ) : Type 0 where
 vanishes : {b : ℕ} → Blank b → Vanishes b
 unfolding isWhite whites mem
 vanishes is-space = record { plain = omega arith; white = refl }
-vanishes is-tab = record { plain = omega arith; white = refl }
-vanishes is-return = record { plain = omega arith; white = refl }
 vanishes is-newline = record { plain = omega arith; white = refl }
 
 delete-blank : (b : ℕ) (bs : List ℕ) → Vanishes b → delete (b ∷ bs) ≡ delete bs
@@ -102,22 +81,36 @@ pub blanks-replicate : (n : ℕ) {b : ℕ} → Blank b → Blanks (replicate n b
 blanks-replicate zero h = no-blank
 blanks-replicate (suc n) h = a-blank h (blanks-replicate n h)
 
--- ---- trimming
+-- ---- trimming takes what is deleted
 
-no-cont : {b : ℕ} → Blank b → inRange cont b ≡ false
-no-cont is-space = refl
-no-cont is-tab = refl
-no-cont is-return = refl
-no-cont is-newline = refl
+all-deleted : (bs : List ℕ) → deleteFrom false (length bs) bs ≡ []
+unfolding deleteFrom
+all-deleted [] = refl
+all-deleted (b ∷ bs) = all-deleted bs
 
-front-formed : (xs : List ℕ) {ys : List ℕ} → Blanks ys → formed (xs ++ ys) ≡ Well → formed xs ≡ Well
-front-formed xs no-blank w = rw append-nil at w
-front-formed xs (a-blank {b} {bs} h r) w = formed-front xs b bs (no-cont h) w
+one-deleted : (y : ℕ) (ys : List ℕ) → charLen (y ∷ ys) ≡ length (y ∷ ys) → isWhite (code (length (y ∷ ys)) (y ∷ ys)) ≡ true → delete (y ∷ ys) ≡ []
+unfolding deleteFrom
+one-deleted y ys e w = rw (e, w, all-deleted ys)
+
+white-deleted : (c : List ℕ) → OneWhite c → delete c ≡ []
+white-deleted c o = rw (o .is) (one-deleted (o .lead) (o .rest) (rw (o .is) at (o .whole)) (rw (o .is) at (o .white)))
+
+front-formed : (xs c : List ℕ) → OneWhite c → formed (xs ++ c) ≡ Well → formed xs ≡ Well
+front-formed xs c o w = formed-front xs (o .lead) (o .rest) (o .starts) (rw (o .is) at w)
+
+trims-formed : {s : List ℕ} → Trims s → formed s ≡ Well → formed (trim s) ≡ Well
+trims-formed (kept e) w = ap formed e ∙ w
+trims-formed (cut {s} xs c o e t) w = ap formed (ap trim e ∙ trim-white xs c o) ∙ trims-formed t (front-formed xs c o (ap formed (sym e) ∙ w))
 
 pub trim-formed : (s : List ℕ) → formed s ≡ Well → formed (trim s) ≡ Well
-trim-formed s w = let t = trim-ends s in front-formed (trim s) (t .blanks) (ap formed (sym (t .is)) ∙ w)
+trim-formed s w = trims-formed (trims s) w
+
+trims-delete : {s : List ℕ} → Trims s → formed s ≡ Well → delete (trim s) ≡ delete s
+trims-delete (kept e) w = ap delete e
+trims-delete (cut {s} xs c o e t) w =
+    let front = front-formed xs c o (ap formed (sym e) ∙ w) in
+    ap delete (ap trim e ∙ trim-white xs c o) ∙ trims-delete t front
+    ∙ sym (ap delete e ∙ delete-append xs c front ∙ ap (delete xs ++_) (white-deleted c o) ∙ append-nil _)
 
 pub delete-trim : (s : List ℕ) → formed s ≡ Well → delete (trim s) ≡ delete s
-delete-trim s w =
-    let t = trim-ends s in
-    sym (ap delete (t .is) ∙ delete-append (trim s) (t .rest) (trim-formed s w) ∙ ap (delete (trim s) ++_) (blanks-delete (t .blanks)) ∙ append-nil _)
+delete-trim s w = trims-delete (trims s) w

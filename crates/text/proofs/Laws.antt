@@ -17,12 +17,14 @@ use Rattle.text.specs.Span.{textOf, joined}
 use Rattle.unicode.specs.Utf8.{formed}
 use Rattle.text.specs.Source.{ofFormed, checked}
 use Rattle.text.specs.Chars.{edge, starts, inSource}
-use Rattle.text.specs.Lines.{trim, newlines}
+use Rattle.text.specs.Lines.{newlines}
+use Rattle.text.specs.Trim.{trim}
 use Rattle.text.specs.Delete.{delete, Blank, Blanks}
 use Rattle.white.proofs.Bools.{and-l, and-r, le-or-lt}
 use Rattle.text.proofs.CharLaws as chars-laws
 use Rattle.text.proofs.LineLaws as lines-laws
 use Rattle.text.proofs.FormedLaws as formed-laws
+use Rattle.text.proofs.EndLaws as end-laws
 use Rattle.text.proofs.DeleteLaws as delete-laws
 
 -- ---- a source that opening let in
@@ -93,7 +95,7 @@ pub newlines-le : (s : List ℕ) → newlines s ≤ length s
 newlines-le s = lines-laws.newlines-le s
 
 pub trim-le : (s : List ℕ) → length (trim s) ≤ length s
-trim-le s = lines-laws.trim-le s
+trim-le s = end-laws.trim-le s
 
 pub trim-formed : (s : List ℕ) → formed s ≡ Well → formed (trim s) ≡ Well
 trim-formed s w = delete-laws.trim-formed s w

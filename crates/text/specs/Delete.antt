@@ -23,12 +23,10 @@ deleteFrom keep zero (b ∷ bs) = onto (darkAt (b ∷ bs)) b (deleteFrom (darkAt
 abbrev pub delete : List ℕ → List ℕ
 delete s = deleteFrom true 0 s
 
--- ---- what the engine writes between texts, and what trimming takes: bytes that are White_Space by themselves
+-- ---- what the engine writes between texts: bytes that are White_Space by themselves
 
 pub data Blank : ℕ → Type 0 where
   is-space : Blank 0x20
-  is-tab : Blank 0x09
-  is-return : Blank 0x0D
   is-newline : Blank 0x0A
 
 pub data Blanks : List ℕ → Type 0 where

@@ -2,4 +2,5 @@ pub mod Span
 pub mod Source
 pub mod Chars
 pub mod Lines
+pub mod Trim
 pub mod Delete

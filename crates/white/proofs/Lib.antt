@@ -1,2 +1,3 @@
 pub mod Bools
 mod RangeLaws
+pub mod WhiteLaws

@@ -1,6 +1,6 @@
 -- `queue::release::letters` meets its contract. Assumes nothing.
 use Rattle.text.proofs.Base.{_∙_, ap, needs}
-use Rattle.text.specs.Lines.{trim}
+use Rattle.text.specs.Trim.{trim}
 use Rattle.queue.proofs.release.letters.Statement.{statement}
 use Rattle.queue.proofs.release.letters.Tie as tie
 
