@@ -1,16 +1,14 @@
 -- White_Space deleted: it goes piece by piece, where a piece is well-formed. Assumes nothing.
 use mathlib.Core.Path.{_≡_, refl, sym, ap, _∙_}
-use mathlib.Core.Bool.{Bool, true, false, not, cond}
+use mathlib.Core.Bool.{Bool, true, false, not}
 use mathlib.Core.List.{List, [], _∷_, _++_, append-nil}
-use Prim.Native.Nat.{ℕ, zero, suc, pred, _+_, _*_, _%_, _≤_, _<_, zero-le}
+use Prim.Native.Nat.{ℕ, zero, suc, pred, _+_, _≤_, _<_, zero-le}
 use native.Mathlib.Nat.{le-of-suc-le-suc, not-suc-le-zero}
 use native.Mathlib.Omega.{arith}
-use lib.Dec.{ltb}
-use lib.ListN.{length, getD, replicate, List·getD-append}
-use borrow.Author.Tests.{ltb-false}
+use lib.ListN.{length, replicate}
 use Rattle.unicode.specs.declared.utf8.Formed.the-variants.{Well}
 use Rattle.white.specs.White.{mem, whites, isWhite}
-use Rattle.unicode.specs.Utf8.{cont, inRange, charLen, formedFrom, formed}
+use Rattle.unicode.specs.Utf8.{charLen, formedFrom, formed}
 use Rattle.text.specs.Chars.{code}
 use Rattle.text.specs.Delete.{onto, darkAt, deleteFrom, delete, Blank, is-space, is-newline, Blanks, no-blank, a-blank}
 use Rattle.unicode.proofs.RowLaws.{char-le, char-append}

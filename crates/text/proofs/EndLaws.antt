@@ -1,18 +1,18 @@
 -- The walk back over the end of a text: which characters it meets, and that it trims. Assumes nothing.
 use mathlib.Core.Path.{_≡_, refl, sym, ap, _∙_}
 use mathlib.Core.Logic.{⊎-elim}
-use mathlib.Core.Bool.{Bool, true, false, cond, not, _&&_, _||_, false≢true}
+use mathlib.Core.Bool.{Bool, true, false, cond, _&&_, _||_, false≢true}
 use mathlib.Core.List.{List, [], _∷_, _++_}
-use Prim.Native.Nat.{ℕ, zero, suc, pred, _+_, _-_, _*_, _%_, _≤_, _<_, zero-le}
-use native.Mathlib.Nat.{le-of-suc-le-suc, not-suc-le-zero}
+use Prim.Native.Nat.{ℕ, zero, suc, _+_, _-_, _≤_, _<_}
+use native.Mathlib.Nat.{not-suc-le-zero}
 use native.Mathlib.Omega.{arith}
-use lib.Dec.{leb, ltb, eqb}
-use lib.ListN.{length, take, drop, getD, length-append, length-take, length-drop, take-append-drop}
+use lib.Dec.{leb, eqb}
+use lib.ListN.{length, take, drop, length-append, length-drop, take-append-drop}
 use lib.Seq.{drop-at, take-take, length-take-le}
 use borrow.Author.Tests.{leb-true, eq-eqb, eqb-true}
-use Rattle.unicode.specs.Utf8.{Range, Row, cont, inRange, table, allIn, lenBy, charLen}
+use Rattle.unicode.specs.Utf8.{Range, Row, inRange, table, allIn, lenBy, charLen}
 use Rattle.white.specs.White.{isWhite}
-use Rattle.text.specs.Chars.{code, stepOf, charAt}
+use Rattle.text.specs.Chars.{code}
 use Rattle.text.specs.Trim.{trimFrom, trim, endsWhite, whiteEnd}
 use Rattle.white.proofs.Bools.{and-l, and-r, or-cases}
 use Rattle.white.proofs.WhiteLaws.{white-above}

@@ -1,19 +1,19 @@
 -- Trimming from the end: a White_Space character there goes, and where none is nothing goes. Assumes nothing.
 use mathlib.Core.Path.{_≡_, refl, sym, ap, _∙_}
 use mathlib.Core.Logic.{⊎-elim}
-use mathlib.Core.Bool.{Bool, true, false, cond, _&&_, false≢true}
+use mathlib.Core.Bool.{Bool, true, false, _&&_, false≢true}
 use mathlib.Core.List.{List, [], _∷_, _++_}
-use Prim.Native.Nat.{ℕ, zero, suc, pred, _+_, _-_, _*_, _%_, _≤_, _<_, zero-le}
+use Prim.Native.Nat.{ℕ, zero, suc, pred, _+_, _-_, _≤_, _<_, zero-le}
 use native.Mathlib.Nat.{le-of-suc-le-suc, not-suc-le-zero}
 use native.Mathlib.Omega.{arith}
-use lib.Dec.{ltb, eqb}
-use lib.ListN.{length, take, drop, length-append, length-drop, take-append-drop}
-use lib.Seq.{take-append-seam, drop-at}
-use borrow.Author.Tests.{lt-ltb, eq-eqb, eqb-true}
+use lib.Dec.{ltb}
+use lib.ListN.{length}
+use lib.Seq.{take-append-seam}
+use borrow.Author.Tests.{lt-ltb}
 use Rattle.unicode.specs.Utf8.{cont, inRange, charLen}
 use Rattle.white.specs.White.{isWhite}
 use Rattle.text.specs.Chars.{code}
-use Rattle.text.specs.Trim.{whiteAt, trimAt, trimFrom, trim, endsWhite, whiteEnd}
+use Rattle.text.specs.Trim.{whiteAt, trimAt, trimFrom, trim}
 use Rattle.white.proofs.Bools.{and-l, and-r, le-or-lt}
 use Rattle.unicode.proofs.RowLaws.{char-le, char-append, char-take}
 use Rattle.text.proofs.CharLaws.{conts, seq, code-append}

@@ -2,6 +2,7 @@
 // à alone would be a blank.
 use crate::chars::char_at;
 use white::is_white;
+use white::is_white_byte;
 ghost use mathlib.Core.Path.{_≡_};
 ghost use Prim.Native.Nat.{_<_};
 ghost use lib.ListN.{length};
@@ -29,7 +30,7 @@ fn white_end(s: &[u8]) -> usize
 {
     let last = s[s.len() - 1];
     if last < 0x80 {
-        if is_white(last as u32) {
+        if is_white_byte(last) {
             return 1;
         }
         return 0;

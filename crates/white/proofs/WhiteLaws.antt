@@ -1,13 +1,14 @@
--- What callers may rely on: where White_Space ends. Assumes nothing.
-use mathlib.Core.Path.{_≡_, refl}
-use mathlib.Core.Bool.{Bool, true, false, _&&_}
+-- What callers may rely on: White_Space among the bytes of ASCII, and where it ends. Assumes nothing.
+use mathlib.Core.Path.{_≡_, refl, sym}
+use mathlib.Core.Logic.{⊎-elim}
+use mathlib.Core.Bool.{Bool, true, false, cond, _&&_, _||_}
 use mathlib.Core.List.{List, [], _∷_}
 use Prim.Native.Nat.{ℕ, _<_}
 use native.Mathlib.Omega.{arith}
-use lib.Dec.{leb}
-use borrow.Author.Tests.{leb-true, ne-eqb}
-use Rattle.white.specs.White.{mem, whites, isWhite}
-use Rattle.white.proofs.Bools.{and-l, and-r}
+use lib.Dec.{leb, ltb, eqb}
+use borrow.Author.Tests.{leb-true, lt-leb, lt-ltb, le-ltb, ne-eqb}
+use Rattle.white.specs.White.{mem, whites, isWhite, whiteByte}
+use Rattle.white.proofs.Bools.{and-l, and-r, and-false, below-at, le-or-lt}
 
 abbrev allUpTo : ℕ → List ℕ → Bool
 allUpTo top [] = true
@@ -23,3 +24,31 @@ mem-above c top (x ∷ xs) h e =
 pub white-above : (c : ℕ) → 0x3000 < c → isWhite c ≡ false
 unfolding isWhite whites
 white-above c h = mem-above c 0x3000 whites h refl
+
+-- ---- below 80 hex: 20 and 09 to 0D, asked of all 128
+
+abbrev same : Bool → Bool → Bool
+same true b = b
+same false true = false
+same false false = true
+
+same-true : (a b : Bool) → same a b ≡ true → a ≡ b
+same-true true b e = sym e
+same-true false true e = e
+same-true false false e = refl
+
+white-plain : (b : ℕ) → b < 0x80 → eqb b 0x20 || (leb 0x09 b && leb b 0x0D) ≡ isWhite b
+unfolding isWhite mem whites
+white-plain b h = same-true (eqb b 0x20 || (leb 0x09 b && leb b 0x0D)) (isWhite b) (below-at 0x80 (λ k. same (eqb k 0x20 || (leb 0x09 k && leb k 0x0D)) (isWhite k)) refl b h)
+
+-- the test of the code, at every number
+pub byte-test : (b : ℕ) → eqb b 0x20 || (leb 0x09 b && leb b 0x0D) ≡ whiteByte b
+byte-test b = ⊎-elim (λ h. rw (le-ltb b 0x80 h, ne-eqb b 0x20 (λ e. omega arith), lt-leb b 0x0D (omega arith), and-false)) (λ h. rw (lt-ltb b 0x80 h) (white-plain b h)) (le-or-lt 0x80 b)
+
+-- a plain byte is White_Space as a byte exactly if it is as a code point
+pub white-byte : (b : ℕ) → b < 0x80 → whiteByte b ≡ isWhite b
+white-byte b h = rw (lt-ltb b 0x80 h)
+
+-- so at every code point the question can be asked by the test on a byte first
+pub white-first : (c : ℕ) → isWhite c ≡ cond (ltb c 0x80) (eqb c 0x20 || (leb 0x09 c && leb c 0x0D)) (isWhite c)
+white-first c = ⊎-elim (λ h. rw (le-ltb c 0x80 h)) (λ h. rw (lt-ltb c 0x80 h) (sym (white-plain c h))) (le-or-lt 0x80 c)

@@ -1,6 +1,6 @@
 // White_Space, Unicode's property.
 ghost use mathlib.Core.Path.{_≡_};
-ghost use Rattle.white.specs.White.{isWhite};
+ghost use Rattle.white.specs.White.{isWhite, whiteByte};
 
 // First and last code point of each of the ten ranges, in ascending order.
 const WHITE: [[u32; 2]; 10] = [
@@ -16,15 +16,32 @@ const WHITE: [[u32; 2]; 10] = [
     [0x3000, 0x3000],
 ];
 
-// The code point c has White_Space: none above the last range has it, else every range is asked, and one bool gathers the answers.
+// The byte b is a White_Space character by itself. 1C to 1F are none, and 85 and A0 are characters only behind C2.
+pub fn is_white_byte(b: u8) -> bool
+    ensures { λ r. ⌜ r ≡ whiteByte b ⌝ }
+{
+    if b == 0x20 {
+        return true;
+    }
+    if b < 0x09 {
+        return false;
+    }
+    b <= 0x0D
+}
+
+// The code point c has White_Space. ASCII comes first, as nearly all scripts are of it; none above the last range has it; else every range
+// behind ASCII is asked, and one bool gathers the answers.
 pub fn is_white(c: u32) -> bool
     ensures { λ r. ⌜ r ≡ isWhite c ⌝ }
 {
+    if c < 0x80 {
+        return is_white_byte(c as u8);
+    }
     if WHITE[9][1] < c {
         return false;
     }
     let mut w = false;
-    let mut k: usize = 0;
+    let mut k: usize = 2;
     while k < 10 {
         let lo = WHITE[k][0];
         let hi = WHITE[k][1];

@@ -1,23 +1,24 @@
 -- The count of characters outside White_Space, walk by walk. Assumes nothing.
 use mathlib.Core.Path.{_≡_, refl, sym, _∙_}
-use mathlib.Core.Bool.{Bool, true, false, cond, _&&_, _||_}
+use mathlib.Core.Bool.{Bool, true, false, cond, _&&_}
 use mathlib.Core.List.{List, [], _∷_}
 use Prim.Native.Nat.{ℕ, zero, suc, _+_, _-_, _≤_, _<_}
 use native.Mathlib.Nat.{min-eq-left, min-eq-right}
 use native.Mathlib.Numerals.{add-one}
 use native.Mathlib.Omega.{arith}
 use mir.Val.{boolByte}
-use lib.Dec.{leb, ltb, eqb}
+use lib.Dec.{ltb}
 use lib.ListN.{length, take, drop, getD, drop-of-length-le}
 use lib.Seq.{drop-cons}
 use borrow.Author.Tests.{ltb-true}
 use Rattle.text.specs.declared.chars.Char.{Char}
-use Rattle.white.specs.White.{mem, whites, isWhite}
+use Rattle.white.specs.White.{isWhite, whiteByte}
 use Rattle.unicode.specs.Utf8.{charLen, allPlain}
 use Rattle.text.specs.Chars.{charsFrom, chars, charAt}
 use Rattle.width.specs.Count.{dark, counted}
 use Rattle.width.specs.Walk.{PlainBlock, Tallied}
-use Rattle.white.proofs.Bools.{and-l, and-r, below-at}
+use Rattle.white.proofs.Bools.{and-l, and-r}
+use Rattle.white.proofs.WhiteLaws.{white-byte}
 use Rattle.text.proofs.CharLaws.{step-fits, step-pos, chars-next, chars-none, char-plain}
 
 pub at-most-one : (w : Bool) → boolByte w ≤ 1
@@ -25,21 +26,6 @@ at-most-one true = omega arith
 at-most-one false = omega arith
 
 -- ---- plain bytes
-
--- of the plain bytes 20 and 09 to 0D have White_Space: asked of all 128
-abbrev same : Bool → Bool → Bool
-same true b = b
-same false true = false
-same false false = true
-
-same-true : (a b : Bool) → same a b ≡ true → a ≡ b
-same-true true b e = sym e
-same-true false true e = e
-same-true false false e = refl
-
-pub white-plain : (b : ℕ) → b < 0x80 → eqb b 0x20 || (leb 0x09 b && leb b 0x0D) ≡ isWhite b
-unfolding isWhite mem whites
-white-plain b h = same-true (eqb b 0x20 || (leb 0x09 b && leb b 0x0D)) (isWhite b) (below-at 0x80 (λ k. same (eqb k 0x20 || (leb 0x09 k && leb k 0x0D)) (isWhite k)) refl b h)
 
 pub plain-at : (s : List ℕ) (k : ℕ) → allPlain s ≡ true → k < length s → getD s k 0 < 0x80
 unfolding allPlain
@@ -51,10 +37,10 @@ one-more : (w : Bool) (m : ℕ) → cond w m (suc m) ≡ 1 - boolByte w + m
 one-more true m = omega arith
 one-more false m = omega arith
 
--- one byte more; w: it has White_Space
-pub dark-next : (s : List ℕ) (k : ℕ) (w : Bool) → k < length s → w ≡ isWhite (getD s k 0) → dark (drop k s) ≡ 1 - boolByte w + dark (drop (k + 1) s)
+-- one byte more; w: it is White_Space
+pub dark-next : (s : List ℕ) (k : ℕ) (w : Bool) → k < length s → getD s k 0 < 0x80 → w ≡ whiteByte (getD s k 0) → dark (drop k s) ≡ 1 - boolByte w + dark (drop (k + 1) s)
 unfolding dark
-dark-next s k w h e = rw (drop-cons s k 0 h, add-one, ← e) (one-more w (dark (drop (suc k) s)))
+dark-next s k w h l e = rw (drop-cons s k 0 h, add-one, ← white-byte (getD s k 0) l, ← e) (one-more w (dark (drop (suc k) s)))
 
 pub dark-end : (s : List ℕ) (k : ℕ) → length s ≤ k → dark (drop k s) ≡ 0
 unfolding dark
@@ -83,9 +69,13 @@ tally-char {t} {i} {k} {w} h e f = record {
   whole = sym (rw (chars-next t i h, f, e) (one-more (isWhite (charAt (drop i t) .code)) (dark (charsFrom 0 (drop (i + charAt (drop i t) .len) t)))));
 }
 
+-- one character more, and what was passed behind it
+pub tally-turn : {t : List ℕ} {i j n m : ℕ} {k : Char} {w : Bool} → Tallied t 0 i n → i < length t → k ≡ charAt (drop i t) → w ≡ isWhite (k .code) → Tallied t (i + k .len) j m → Tallied t 0 j (n + (1 - boolByte w) + m)
+tally-turn p h e f q = tally-join (tally-join p (tally-char h e f)) q
+
 -- one plain byte
-pub tally-byte : {t : List ℕ} {i : ℕ} {w : Bool} → i < length t → getD t i 0 < 0x80 → w ≡ isWhite (getD t i 0) → Tallied t i (i + 1) (1 - boolByte w)
-tally-byte {t} {i} h l f = tally-char h (char-plain t i h l) f
+pub tally-byte : {t : List ℕ} {i : ℕ} {w : Bool} → i < length t → getD t i 0 < 0x80 → w ≡ whiteByte (getD t i 0) → Tallied t i (i + 1) (1 - boolByte w)
+tally-byte {t} {i} h l f = tally-char h (char-plain t i h l) (f ∙ white-byte (getD t i 0) l)
 
 -- n plain bytes are n characters
 plain-dark : (n : ℕ) (t : List ℕ) (i : ℕ) → i + n ≤ length t → allPlain (take n (drop i t)) ≡ true → Tallied t i (i + n) (dark (take n (drop i t)))
@@ -95,7 +85,8 @@ plain-dark (suc n) t i h e =
     let b = getD t i 0 in
     let next = drop-cons t i 0 (omega arith) in
     let q : ltb b 0x80 && allPlain (take n (drop (suc i) t)) ≡ true = rw next at e in
-    let here = tally-byte {t = t} {i = i} (omega arith) (ltb-true b 0x80 (and-l (ltb b 0x80) _ q)) refl in
+    let plain = ltb-true b 0x80 (and-l (ltb b 0x80) _ q) in
+    let here = tally-byte {t = t} {i = i} (omega arith) plain (sym (white-byte b plain)) in
     let rest = plain-dark n t (i + 1) (omega arith) (rw add-one (and-r (ltb b 0x80) _ q)) in
     rw next (tally-as (tally-join here rest) (omega arith) (rw add-one (sym (one-more (isWhite b) (dark (take n (drop (suc i) t)))))))
 

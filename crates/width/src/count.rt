@@ -2,11 +2,11 @@
 use text::chars::char_at;
 use unicode::utf8::plain;
 use white::is_white;
+use white::is_white_byte;
 ghost use mathlib.Core.Path.{_≡_};
 ghost use mathlib.Core.Bool.{true};
 ghost use Prim.Native.Nat.{_≤_, _<_};
 ghost use lib.ListN.{length};
-ghost use Rattle.white.specs.White.{isWhite};
 ghost use Rattle.unicode.specs.Utf8.{allPlain};
 ghost use Rattle.width.specs.Count.{dark, counted};
 ghost use Rattle.width.specs.Walk.{PlainBlock, Tallied};
@@ -17,20 +17,6 @@ struct Tally {
     end: usize,
 }
 
-// The plain byte b has White_Space.
-fn white_byte(b: u8) -> bool
-    requires { ⌜ b < 0x80 ⌝ }
-    ensures { λ r. ⌜ r ≡ isWhite b ⌝ }
-{
-    if b == 0x20 {
-        return true;
-    }
-    if b < 0x09 {
-        return false;
-    }
-    b <= 0x0D
-}
-
 // The plain bytes outside White_Space: a sum with no exit and no branch, so that it becomes vector code.
 fn dark_bytes(s: &[u8]) -> u64
     requires { ⌜ allPlain (now s) ≡ true ⌝ }
@@ -39,7 +25,7 @@ fn dark_bytes(s: &[u8]) -> u64
     let mut n: u64 = 0;
     let mut k: usize = 0;
     while k < s.len() {
-        n += 1 - white_byte(s[k]) as u64;
+        n += 1 - is_white_byte(s[k]) as u64;
         k += 1;
     }
     n
@@ -90,25 +76,37 @@ fn over_plain(t: &[u8], from: usize, left: u64) -> Tally
         if left <= n {
             return Tally { dark: n, end: i };
         }
-        n += 1 - white_byte(b) as u64;
+        n += 1 - is_white_byte(b) as u64;
         i += 1;
     }
     Tally { dark: n, end: i }
 }
 
-// Over the plain bytes at `from`, behind a character of `len` bytes. Behind one of several bytes none are looked for: another such
-// character mostly follows, and a block tried there is time lost.
-fn over_next(t: &[u8], from: usize, len: usize, left: u64) -> Tally
+// Over the characters of several bytes at `from`, until `left` characters are found: mostly another such follows, and a block tried behind
+// each of them is time lost.
+fn over_wide(t: &[u8], from: usize, left: u64) -> Tally
     requires { ⌜ from ≤ length (now t) ⌝ }
-    ensures { λ r. ⌜ Tallied (now (t .entry)) from (r .end) (r .dark) ⌝ }
+    ensures { λ r. ⌜ Tallied (now (t .entry)) from (r .end) (r .dark) × (r .dark ≤ left) ⌝ }
 {
-    if len == 1 {
-        return over_plain(t, from, left);
+    let mut n: u64 = 0;
+    let mut i = from;
+    while i < t.len() {
+        if t[i] < 0x80 {
+            return Tally { dark: n, end: i };
+        }
+        if left <= n {
+            return Tally { dark: n, end: i };
+        }
+        let c = char_at(t, i);
+        // a sum, not a branch on the answer
+        n += 1 - is_white(c.code) as u64;
+        i += c.len;
     }
-    Tally { dark: 0, end: from }
+    Tally { dark: n, end: i }
 }
 
-// How many characters of a text are outside White_Space, up to one above the limit; little is read once that is known.
+// How many characters of a text are outside White_Space, up to one above the limit; little is read once that is known. A turn passes a
+// character, those of several bytes behind it, and then the plain ones.
 pub fn count(t: &[u8], limit: u32) -> u64
     ensures { λ r. ⌜ r ≡ counted limit (now (t .entry)) ⌝ }
 {
@@ -117,14 +115,15 @@ pub fn count(t: &[u8], limit: u32) -> u64
     let mut i: usize = 0;
     while i < t.len() {
         let c = char_at(t, i);
-        // a sum, not a branch on the answer
         n += 1 - is_white(c.code) as u64;
-        let run = over_next(t, i + c.len, c.len, above - n);
-        n += run.dark;
+        let wide = over_wide(t, i + c.len, above - n);
+        n += wide.dark;
+        let plain = over_plain(t, wide.end, above - n);
+        n += plain.dark;
         if above <= n {
             return above;
         }
-        i = run.end;
+        i = plain.end;
     }
     n
 }

@@ -1,17 +1,18 @@
--- `white::is_white` meets its contract: above the last pair there is none; the loop asks every pair of the table whether it holds the
--- code point, and the whole table spreads to the 25 code points, which antt computes. Assumes nothing.
-use Prim.Native.Nat.{_+_, _-_, _<_, _≤_, zero, suc, ℕ}
-use Rattle.white.proofs.Bools.{below-at, or-assoc, or-true, or-false, and-false}
+-- `white::is_white` meets its contract: ASCII is answered by the byte, and above the last pair there is none; the loop asks every other
+-- pair of the table whether it holds the code point, and the whole table spreads to the 25 code points, which antt computes. Assumes nothing.
+use Prim.Native.Nat.{_+_, _-_, _<_, _≤_, ℕ}
+use Rattle.white.proofs.Bools.{or-assoc, or-true, or-false, and-false}
+use Rattle.white.proofs.WhiteLaws.{white-above, white-byte}
 use Rattle.white.proofs.RangeLaws.{low, high, within, within-spread}
 use Rattle.white.specs.White.{isWhite, whites}
-use borrow.Author.Tests.{leb-true, le-leb, lt-leb}
+use borrow.Author.Tests.{le-leb, lt-leb}
 use lib.Dec.{leb}
 use lib.ListN.{drop, getD}
 use lib.Seq.{drop-cons}
 use mathlib.Core.Bool.{Bool, true, false, _||_, _&&_}
 use mathlib.Core.List.{List, [], _∷_}
 use mathlib.Core.Logic.{⊎-elim}
-use mathlib.Core.Path.{_∙_, _≡_, ap, refl, sym}
+use mathlib.Core.Path.{_∙_, _≡_, ap, sym}
 use native.Mathlib.Numerals.{add-one}
 use borrow.Author.Needs.{needs}
 use native.Mathlib.Omega.{arith}
@@ -48,12 +49,9 @@ ends-before c k w h b = asked c k w h ∙ rw (lt-leb c (high (pairAt k)) b, and-
 starts-behind : (c k : ℕ) (w : Bool) → k < 10 → c < low (pairAt k) → w || within (drop k pairs) c ≡ w || within (drop (k + 1) pairs) c
 starts-behind c k w h a = asked c k w h ∙ rw (lt-leb (low (pairAt k)) c a, or-false)
 
--- every pair ends at the last one's end or below it, so a code point above that passes them all
-all-pass : (c : ℕ) → 0x3000 < c → (n : ℕ) → n ≤ 10 → within (drop n pairs) c ≡ isWhite c
-all-pass c h zero l = rule c
-all-pass c h (suc n) l =
-    let ends = leb-true (high (pairAt n)) 0x3000 (below-at 10 (λ k. leb (high (pairAt k)) 0x3000) refl n (omega arith)) in
-    ap (λ (k : ℕ). within (drop k pairs) c) (sym (add-one n)) ∙ sym (ends-before c n false (omega arith) (omega arith)) ∙ all-pass c h n (omega arith)
+-- the first two pairs end below 80 hex
+behind-ascii : (c : ℕ) → 0x80 ≤ c → within (drop 2 pairs) c ≡ isWhite c
+behind-ascii c h = sym (ends-before c 1 false (omega arith) (omega arith)) ∙ sym (ends-before c 0 false (omega arith) (omega arith)) ∙ rule c
 
 abbrev Inv-loop : tie.InvT-loop
 Inv-loop c w₀ k₀ w k = (k ≤ 10) × (w || within (drop k pairs) c ≡ isWhite c)
@@ -62,13 +60,16 @@ abbrev μ-loop : tie.MeasureT-loop
 μ-loop c w₀ k₀ w k = 10 - k
 
 returns : tie.Need-returns Inv-loop μ-loop
-returns c = all-pass (c .before .before .args .c) (c .if1 .taken) 10 (omega arith)
+returns c = c .is-white-byte .ensures ∙ white-byte (c .before .before .args .c) (c .before .if1 .taken)
+
+returns-2 : tie.Need-returns-2 Inv-loop μ-loop
+returns-2 c = sym (white-above (c .before .before .before .args .c) (c .if2 .taken))
 
 loop-again : tie.Need-loop-again Inv-loop μ-loop
 loop-again c =
     let in-loop = c .before .before .before in
     let at-loop = in-loop .before in
-    let cp = at-loop .before .before .before .args .c in
+    let cp = at-loop .before .before .before .before .args .c in
     let k = at-loop .loop .k in
     let w = at-loop .loop .w in
     let h = in-loop .loop-test .taken in
@@ -79,13 +80,13 @@ loop-again c =
           (⊎-elim
           (λ j. rw (j .2) (sym (ends-before cp k w h (j .1 .left)) ∙ e))
           (λ j. rw (j .1) (sym (starts-behind cp k w h (j .0 .left)) ∙ e)))
-          (c .if2 .came),
+          (c .if3 .came),
     )
 
-returns-2 : tie.Need-returns-2 Inv-loop μ-loop
-returns-2 c =
+returns-3 : tie.Need-returns-3 Inv-loop μ-loop
+returns-3 c =
     let at-loop = c .before in
-    let start = at-loop .before .before .before in
+    let start = at-loop .before .before .before .before in
     let e : at-loop .loop .k ≡ 10 = omega arith in
     sym (or-false (at-loop .loop .w)) ∙ ap (λ (k : ℕ). at-loop .loop .w || within (drop k pairs) (start .args .c)) (sym e) ∙ at-loop .loop .inv .1
 
@@ -96,9 +97,12 @@ is-white-spec =
     Inv-loop
     μ-loop
     (λ c. omega arith)
-    (λ c. omega arith)
+    (λ c κs. search needs)
     returns
-    (λ c. (omega arith, rule (c .before .before .args .c)))
+    (λ c. omega arith)
+    (λ c. omega arith)
+    returns-2
+    (λ c. (omega arith, behind-ascii (c .before .before .before .args .c) (c .before .before .if1 .left)))
     (λ c. omega arith)
     (λ c. omega arith)
     (λ c. omega arith)
@@ -108,4 +112,4 @@ is-white-spec =
     (λ c. search needs)
     (λ c. search needs)
     loop-again
-    returns-2)
+    returns-3)

@@ -1,4 +1,5 @@
 -- `text::trim::white_end` meets its contract: a plain byte tells by itself, any other by the character that it ends. Assumes nothing.
+use Rattle.white.proofs.WhiteLaws.{white-byte}
 use Rattle.text.proofs.LastLaws.{end-high, end-plain, end-three, end-two, end-white}
 use mathlib.Core.Path.{_∙_, sym}
 use borrow.Author.Needs.{needs}
@@ -7,10 +8,14 @@ use Rattle.text.proofs.trim.white_end.Statement.{statement}
 use Rattle.text.proofs.trim.white_end.Tie as tie
 
 returns : tie.Need-returns
-returns c = end-white _ (omega arith) (c .before .before .if1 .taken) (sym (c .before .is-white .ensures) ∙ c .if2 .taken)
+returns c =
+    let plain = c .before .before .if1 .taken in
+    end-white _ (omega arith) plain (sym (white-byte _ plain) ∙ sym (c .before .is-white-byte .ensures) ∙ c .if2 .taken)
 
 returns-2 : tie.Need-returns-2
-returns-2 c = end-plain _ (omega arith) (c .before .before .if1 .taken) (sym (c .before .is-white .ensures) ∙ c .if2 .left)
+returns-2 c =
+    let plain = c .before .before .if1 .taken in
+    end-plain _ (omega arith) plain (sym (white-byte _ plain) ∙ sym (c .before .is-white-byte .ensures) ∙ c .if2 .left)
 
 returns-3 : tie.Need-returns-3
 returns-3 c = end-two _ (omega arith) (c .before .before .if1 .left) (sym (c .before .ends-white .ensures) ∙ c .if3 .taken)
@@ -31,7 +36,6 @@ pub white-end-spec : {M : Type 1} → statement M
 white-end-spec =
     tie.close
     (tie.spec
-    (λ c. search needs)
     (λ c. search needs)
     (λ c. search needs)
     (λ c κs. search needs)

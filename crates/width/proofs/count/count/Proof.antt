@@ -1,7 +1,6 @@
--- `width::count::count` meets its contract. The invariant: what was passed is tallied, and not over the limit; a turn passes one character
--- and the plain bytes behind it. Assumes nothing.
+-- `width::count::count` meets its contract. The invariant: what was passed is tallied, and not over the limit. Assumes nothing.
 use Prim.Native.Nat.{_-_, _≤_}
-use Rattle.width.proofs.CountLaws.{at-most-one, char-moves, count-end, count-over, tally-char, tally-join, tally-none}
+use Rattle.width.proofs.CountLaws.{at-most-one, char-moves, count-end, count-over, tally-char, tally-join, tally-none, tally-turn}
 use Rattle.width.specs.Walk.{Tallied}
 use lib.ListN.{length}
 use borrow.Author.Needs.{needs}
@@ -15,42 +14,57 @@ Inv-loop t limit above n₀ i₀ n i = Tallied t 0 i n × (n ≤ limit)
 abbrev μ-loop : tie.MeasureT-loop
 μ-loop t limit above n₀ i₀ n i = length t - i
 
-add-over-next : tie.Need-add-over-next Inv-loop μ-loop
-add-over-next c =
+-- what a turn passes: one character, those of several bytes behind it, the plain ones
+add-over-wide : tie.Need-add-over-wide Inv-loop μ-loop
+add-over-wide c =
     let at-char = c .before .before in
     omega (arith, tally-char (at-char .before .loop-test .taken) (at-char .char-at .ensures) (c .before .is-white .ensures) .within)
 
-over-next-requires : tie.Need-over-next-requires Inv-loop μ-loop
-over-next-requires c κs =
+over-wide-requires : tie.Need-over-wide-requires Inv-loop μ-loop
+over-wide-requires c κs =
     let at-char = c .before .before in
     tally-char (at-char .before .loop-test .taken) (at-char .char-at .ensures) (c .before .is-white .ensures) .within
 
 add-n-2 : tie.Need-add-n-2 Inv-loop μ-loop
 add-n-2 c =
-    let at-run = c .before in
-    let at-char = at-run .before .before .before in
-    let one = tally-char (at-char .before .loop-test .taken) (at-char .char-at .ensures) (at-run .before .before .is-white .ensures) in
-    omega (arith, tally-join (tally-join (at-char .before .before .loop .inv .0) one) (at-run .over-next .ensures))
+    let at-white = c .before .before .before in
+    omega (arith, c .before .over-wide .ensures .1, at-white .before .before .before .loop .inv .1, at-most-one (at-white .is-white .result))
+
+sub-over-plain : tie.Need-sub-over-plain Inv-loop μ-loop
+sub-over-plain c =
+    let at-white = c .before .before .before in
+    omega (arith, c .before .over-wide .ensures .1, at-white .before .before .before .loop .inv .1, at-most-one (at-white .is-white .result))
+
+add-n-3 : tie.Need-add-n-3 Inv-loop μ-loop
+add-n-3 c =
+    let at-wide = c .before .before .before in
+    let at-white = at-wide .before .before in
+    let in-loop = at-white .before .before in
+    let wide = tally-turn (in-loop .before .loop .inv .0) (in-loop .loop-test .taken) (at-white .before .char-at .ensures) (at-white .is-white .ensures) (at-wide .over-wide .ensures .0) in
+    omega (arith, tally-join wide (c .before .over-plain .ensures))
 
 returns : tie.Need-returns Inv-loop μ-loop
 returns c =
-    let at-run = c .before .before in
-    let at-char = at-run .before .before .before in
-    let one = tally-char (at-char .before .loop-test .taken) (at-char .char-at .ensures) (at-run .before .before .is-white .ensures) in
-    count-over _ (tally-join (tally-join (at-char .before .before .loop .inv .0) one) (at-run .over-next .ensures)) (c .if1 .taken)
+    let at-wide = c .before .before .before .before in
+    let at-white = at-wide .before .before in
+    let in-loop = at-white .before .before in
+    let wide = tally-turn (in-loop .before .loop .inv .0) (in-loop .loop-test .taken) (at-white .before .char-at .ensures) (at-white .is-white .ensures) (at-wide .over-wide .ensures .0) in
+    count-over _ (tally-join wide (c .before .before .over-plain .ensures)) (c .if1 .taken)
 
 loop-less : tie.Need-loop-less Inv-loop μ-loop
 loop-less c =
-    let at-run = c .before .before in
-    let at-char = at-run .before .before .before in
-    omega (arith, char-moves _ (at-char .before .before .loop .i) (at-char .char-at .ensures), at-run .over-next .ensures, at-char .before .loop-test .taken)
+    let at-wide = c .before .before .before .before in
+    let at-char = at-wide .before .before .before in
+    let in-loop = at-char .before in
+    omega (arith, char-moves _ (in-loop .before .loop .i) (at-char .char-at .ensures), at-wide .over-wide .ensures .0, c .before .before .over-plain .ensures, in-loop .loop-test .taken)
 
 loop-again : tie.Need-loop-again Inv-loop μ-loop
 loop-again c =
-    let at-run = c .before .before in
-    let at-char = at-run .before .before .before in
-    let one = tally-char (at-char .before .loop-test .taken) (at-char .char-at .ensures) (at-run .before .before .is-white .ensures) in
-    (tally-join (tally-join (at-char .before .before .loop .inv .0) one) (at-run .over-next .ensures), omega (arith, c .if1 .left))
+    let at-wide = c .before .before .before .before in
+    let at-white = at-wide .before .before in
+    let in-loop = at-white .before .before in
+    let wide = tally-turn (in-loop .before .loop .inv .0) (in-loop .loop-test .taken) (at-white .before .char-at .ensures) (at-white .is-white .ensures) (at-wide .over-wide .ensures .0) in
+    (tally-join wide (c .before .before .over-plain .ensures), omega (arith, c .if1 .left))
 
 pub count-spec : {M : Type 1} → statement M
 count-spec =
@@ -65,10 +79,13 @@ count-spec =
     (λ c. search needs)
     (λ c. at-most-one (c .is-white .result))
     (λ c. omega (arith, c .before .before .before .loop .inv .1))
-    add-over-next
+    add-over-wide
     (λ c. omega (arith, c .before .before .before .before .loop .inv .1))
-    over-next-requires
+    over-wide-requires
     add-n-2
+    sub-over-plain
+    (λ c κs. c .before .over-wide .ensures .0 .within)
+    add-n-3
     returns
     loop-less
     loop-again

@@ -16,15 +16,13 @@ Inv-loop s n₀ k₀ n k = (k ≤ length s) × (n ≤ k) × (n + dark (drop k s)
 abbrev μ-loop : tie.MeasureT-loop
 μ-loop s n₀ k₀ n k = length s - k
 
-white-byte-requires : tie.Need-white-byte-requires Inv-loop μ-loop
-white-byte-requires c κs =
-    let start = c .before .before .before .before in
-    plain-at (start .args .s .now) (c .before .before .loop .k) (start .pre) (c .before .loop-test .taken)
-
 loop-again : tie.Need-loop-again Inv-loop μ-loop
 loop-again c =
     let at-loop = c .before .before .before in
-    let next = dark-next (at-loop .before .before .args .s .now) (at-loop .loop .k) (c .white-byte .result) (c .before .before .loop-test .taken) (c .white-byte .ensures) in
+    let start = at-loop .before .before in
+    let k = at-loop .loop .k in
+    let here = c .before .before .loop-test .taken in
+    let next = dark-next (start .args .s .now) k (c .is-white-byte .result) here (plain-at (start .args .s .now) k (start .pre) here) (c .is-white-byte .ensures) in
     (omega arith, omega arith, omega (arith, next, at-loop .loop .inv .2))
 
 returns : tie.Need-returns Inv-loop μ-loop
@@ -38,9 +36,9 @@ dark-bytes-spec =
     μ-loop
     (λ c. search needs)
     (λ c. search needs)
-    white-byte-requires
+    (λ c κs. search needs)
     (λ c. search needs)
-    (λ c. at-most-one (c .white-byte .result))
+    (λ c. at-most-one (c .is-white-byte .result))
     (λ c. omega arith)
     (λ c. omega arith)
     (λ c. omega arith)

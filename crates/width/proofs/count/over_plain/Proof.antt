@@ -22,7 +22,7 @@ add-n c =
 loop-again : tie.Need-loop-again Inv-loop μ-loop
 loop-again c =
     let in-loop = c .before .before .before .before in
-    tally-join (in-loop .before .loop .inv) (tally-byte (in-loop .loop-test .taken) (c .before .before .if1 .left) (c .white-byte .ensures))
+    tally-join (in-loop .before .loop .inv) (tally-byte (in-loop .loop-test .taken) (c .before .before .if1 .left) (c .is-white-byte .ensures))
 
 pub over-plain-spec : {M : Type 1} → statement M
 over-plain-spec =
@@ -35,9 +35,9 @@ over-plain-spec =
     (λ c. search needs)
     (λ c. c .before .before .before .loop .inv)
     (λ c. c .before .before .before .before .loop .inv)
-    (λ c κs. c .before .if1 .left)
+    (λ c κs. search needs)
     (λ c. search needs)
-    (λ c. at-most-one (c .white-byte .result))
+    (λ c. at-most-one (c .is-white-byte .result))
     add-n
     (λ c. search needs)
     (λ c. search needs)
