@@ -4,7 +4,7 @@ use native.Mathlib.Numerals.{add-one}
 use Rattle.text.specs.declared.span.Span.{Span}
 use Rattle.text.specs.Span.{joined}
 use Rattle.text.specs.Span as span
-use Rattle.width.specs.Count.{isAtLeast}
+use Rattle.width.specs.Count.{isWide}
 use Rattle.tree.specs.declared.record.Record.{Record}
 use Rattle.tree.specs.declared.record.RecordNo.{RecordNo}
 use Rattle.tree.specs.Table.{nodeOf}
@@ -92,7 +92,7 @@ module _ (rs : List Record) (head : RecordNo) {a : Record} (e : a ≡ nodeOf rs 
 
 -- ---- the whole question
 
-module _ (x : Script) (k head : RecordNo) (h : head .0 < 8192) {t : Bool} (e : t ≡ isAtLeast (x .source) (nodeOf (x .tree) (k .0) .span) 80) where
+module _ (x : Script) (k head : RecordNo) (h : head .0 < 8192) {t : Bool} (e : t ≡ isWide (x .source) (nodeOf (x .tree) (k .0) .span) 80) where
   pub chain-fits : t ≡ false → 8192 ≡ chainFrom x k (foundOf head)
   unfolding chainFrom
   chain-fits f = rw (found-is {k = head} h, ← e, f)
@@ -105,7 +105,7 @@ pub chain-headless : (x : Script) (k head : RecordNo) → 8192 ≤ head .0 → 8
 unfolding chainFrom
 chain-headless x k head h = rw (found-not {k = head} h)
 
-module _ (x : Script) (head : RecordNo) (ks : List ℕ) {c : Tail} (q : c ≡ tailIn (x .tree) 1 ks) {s : Span} (p : s ≡ headOf (x .tree) head c) {t : Bool} (e : t ≡ isAtLeast (x .source) s 80) where
+module _ (x : Script) (head : RecordNo) (ks : List ℕ) {c : Tail} (q : c ≡ tailIn (x .tree) 1 ks) {s : Span} (p : s ≡ headOf (x .tree) head c) {t : Bool} (e : t ≡ isWide (x .source) s 80) where
   pub breaks-wide : t ≡ true → 0 ≡ breaksAt x head ks
   unfolding breaksAt
   breaks-wide f = rw (← q, ← p, ← e, f)

@@ -1,3 +1,2 @@
 mod ReasonLaws
 mod ChainLaws
-mod WidthLaws

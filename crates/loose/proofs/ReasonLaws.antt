@@ -2,7 +2,7 @@
 use Rattle.text.proofs.Base.{_≡_, refl, _⊎_, inl, inr, Bool, true, false, List, _∷_, ℕ, _≤_, _<_, _+_, length, eq-eqb, ne-eqb, arith}
 use native.Mathlib.Numerals.{add-one}
 use Rattle.text.specs.declared.span.BytePos.{BytePos}
-use Rattle.width.specs.Count.{isAtLeast, placeIn}
+use Rattle.width.specs.Count.{isWide, placeIn}
 use Rattle.tree.specs.declared.record.Record.{Record}
 use Rattle.tree.specs.declared.record.RecordNo.{RecordNo}
 use Rattle.tree.specs.Table.{nodeOf}
@@ -66,7 +66,7 @@ module _ {rs : List Record} {keys : Bool} {start end at n : ℕ} (g : Crowding r
 
 -- ---- the whole question
 
-module _ (x : Script) (keys : Bool) (k : RecordNo) (from : ℕ) {t : Bool} (e : t ≡ isAtLeast (x .source) (nodeOf (x .tree) (k .0) .span) 80) where
+module _ (x : Script) (keys : Bool) (k : RecordNo) (from : ℕ) {t : Bool} (e : t ≡ isWide (x .source) (nodeOf (x .tree) (k .0) .span) 80) where
   pub too-wide : {p : BytePos} → t ≡ true → p ≡ placeIn (x .source) (nodeOf (x .tree) (k .0) .span) 80 → Wide p ≡ reason x keys k from
   unfolding reason
   too-wide h q = rw (← e, h, q)

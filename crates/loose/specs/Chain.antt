@@ -6,7 +6,7 @@ use lib.Dec.{eqb}
 use Rattle.text.specs.declared.span.Span.{Span}
 use Rattle.text.specs.Span.{joined}
 use Rattle.text.specs.Span as span
-use Rattle.width.specs.Count.{isAtLeast}
+use Rattle.width.specs.Count.{isWide}
 use Rattle.tree.specs.declared.record.Record.{Record}
 use Rattle.tree.specs.declared.record.RecordNo.{RecordNo}
 use Rattle.tree.specs.declared.cursor.Found.{Found}
@@ -53,10 +53,10 @@ firstIn (Call n k) = n
 unfoldable pub breaksAt : Script → RecordNo → List ℕ → ℕ
 breaksAt x head ks =
     let t = tailIn (x .tree) 1 ks in
-    cond (isAtLeast (x .source) (headOf (x .tree) head t) 80) 0
+    cond (isWide (x .source) (headOf (x .tree) head t) 80) 0
     (cond (dotBehind (x .tree) (firstIn t) ks) 0 (firstIn t))
 
 -- the link from which on chain k breaks; 8,192, which no link has, where its span does not pass 80 or there is no head
 unfoldable pub chainFrom : Script → RecordNo → Found → ℕ
 chainFrom x k None = 8192
-chainFrom x k (At head) = cond (isAtLeast (x .source) (nodeOf (x .tree) (k .0) .span) 80) (breaksAt x head (behindHead (x .tree) k head)) 8192
+chainFrom x k (At head) = cond (isWide (x .source) (nodeOf (x .tree) (k .0) .span) 80) (breaksAt x head (behindHead (x .tree) k head)) 8192

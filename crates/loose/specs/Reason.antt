@@ -3,7 +3,7 @@ use Prim.Native.Nat.{ℕ, suc}
 use mathlib.Core.Bool.{Bool, true, false, cond, _||_}
 use mathlib.Core.List.{List, [], _∷_}
 use lib.Dec.{eqb}
-use Rattle.width.specs.Count.{isAtLeast, placeIn}
+use Rattle.width.specs.Count.{isWide, placeIn}
 use Rattle.tree.specs.declared.record.Record.{Record}
 use Rattle.tree.specs.declared.record.RecordNo.{RecordNo}
 use Rattle.tree.specs.Table.{nodeOf}
@@ -36,7 +36,7 @@ childrenFrom rs k from = shown rs (cursorOf from (behind rs (k .0)))
 unfoldable pub reason : Script → Bool → RecordNo → ℕ → Reason
 reason x keys k from =
     let span = nodeOf (x .tree) (k .0) .span in
-    cond (isAtLeast (x .source) span 80) (Wide (placeIn (x .source) span 80)) (crowd (x .tree) keys 0 (childrenFrom (x .tree) k from))
+    cond (isWide (x .source) span 80) (Wide (placeIn (x .source) span 80)) (crowd (x .tree) keys 0 (childrenFrom (x .tree) k from))
 
 -- loose exactly if there is a reason
 abbrev pub isLoose : Reason → Bool

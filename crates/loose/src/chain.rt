@@ -1,5 +1,5 @@
 // Where a chain breaks: format.rs 1182 to 1229.
-use crate::at_least::is_at_least;
+use crate::wide::is_wide;
 use kinds::bytes;
 use text::span::Span;
 use tree::cursor::behind;
@@ -91,7 +91,7 @@ fn breaks_at(src: &[u8], table: &[u32], k: RecordNo, head: RecordNo) -> u32
     ensures { λ r. ⌜ r ≡ breaksAt (script src table) head (behindHead (treeOf (now (table .entry))) k head) ⌝ }
 {
     let call = first_call(table, k, head);
-    if is_at_least(src, head_span(table, head, call), 80) {
+    if is_wide(src, head_span(table, head, call), 80) {
         return 0;
     }
     let n = first(call);
@@ -109,7 +109,7 @@ pub fn chain_from(src: &[u8], table: &[u32], k: RecordNo, head: RecordNo) -> u32
     if 8192 <= head.0 {
         return 8192;
     }
-    if is_at_least(src, node(table, k).span, 80) {
+    if is_wide(src, node(table, k).span, 80) {
         return breaks_at(src, table, k, head);
     }
     8192

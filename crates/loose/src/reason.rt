@@ -1,5 +1,5 @@
 // Why a list goes loose, if it does: format.rs 431 to 441 and 784 to 794.
-use crate::at_least::is_at_least;
+use crate::wide::is_wide;
 use kinds::bytes;
 use text::span::BytePos;
 use tree::cursor::behind;
@@ -61,7 +61,7 @@ pub fn why_loose(src: &[u8], table: &[u32], k: RecordNo, from: RecordNo, keys: b
     ensures { λ r. ⌜ r ≡ reason (script src table) keys k (from .0) ⌝ }
 {
     let span = node(table, k).span;
-    if is_at_least(src, span, 80) {
+    if is_wide(src, span, 80) {
         return Reason::Wide(place_in(src, span, 80));
     }
     crowd(table, k, from, keys)
@@ -71,7 +71,7 @@ pub fn why_loose(src: &[u8], table: &[u32], k: RecordNo, from: RecordNo, keys: b
 pub fn goes_loose(src: &[u8], table: &[u32], k: RecordNo, from: RecordNo, keys: bool) -> bool
     ensures { λ r. ⌜ r ≡ isLoose (reason (script src table) keys k (from .0)) ⌝ }
 {
-    if is_at_least(src, node(table, k).span, 80) {
+    if is_wide(src, node(table, k).span, 80) {
         return true;
     }
     is_loose(crowd(table, k, from, keys))

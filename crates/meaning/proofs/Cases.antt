@@ -7,7 +7,7 @@ use lib.Dec.{T}
 use Rattle.white.specs.White.{mem, whites, isWhite}
 use Rattle.unicode.specs.Utf8.{table, allIn, lenBy, charLen}
 use Rattle.text.specs.Chars.{starts, inSource, code, charsFrom}
-use Rattle.width.specs.Count.{dark, isAtLeast}
+use Rattle.width.specs.Count.{dark, counted, widthOf}
 use Rattle.text.specs.Lines.{newlines}
 use Rattle.text.specs.Trim.{trimFrom}
 use Rattle.tree.specs.Records.{four}
@@ -31,11 +31,11 @@ use Rattle.meaning.specs.Cases as cases
 
 -- P1 to P10 hold
 pub all-pass : T (cases.allPass cases.table)
-unfolding nodeOf cursor.behind mem whites isWhite table allIn lenBy charLen starts inSource code charsFrom dark trimFrom newlines breaks refuseIf metOf collect gather linePieces spacePieces signed act step lentState serve call isAtLeast cases.calls cases.passes
+unfolding nodeOf cursor.behind mem whites isWhite table allIn lenBy charLen starts inSource code charsFrom dark trimFrom newlines breaks refuseIf metOf collect gather linePieces spacePieces signed act step lentState serve call counted widthOf cases.calls cases.passes
 all-pass = tt
 
 pub more-pass : T (cases.allPass cases.more)
-unfolding nodeOf cursor.behind mem whites isWhite table allIn lenBy charLen starts inSource code charsFrom dark trimFrom newlines breaks refuseIf metOf collect gather linePieces spacePieces signed act step lentState serve call isAtLeast cases.calls cases.passes
+unfolding nodeOf cursor.behind mem whites isWhite table allIn lenBy charLen starts inSource code charsFrom dark trimFrom newlines breaks refuseIf metOf collect gather linePieces spacePieces signed act step lentState serve call counted widthOf cases.calls cases.passes
 more-pass = tt
 
 -- one call record of each kind, with the first and the last value of those that are listed

@@ -1,6 +1,6 @@
 -- The small sessions P1 to P10 of document 01, as one table. Assumes nothing.
 use Prim.Native.Nat.{ℕ}
-use mathlib.Core.Bool.{Bool, true, false, not, _&&_}
+use mathlib.Core.Bool.{Bool, true, false, _&&_}
 use mathlib.Core.List.{List, [], _∷_, _++_}
 use lib.ListN.{length, replicate}
 use lib.Dec.{eqb}
@@ -14,7 +14,7 @@ use Rattle.meaning.specs.declared.answer.Answer.the-variants.{Done}
 use Rattle.meaning.specs.State.{Script, Comment}
 use Rattle.meaning.specs.World.{World, world, output, Result, result, call}
 use Rattle.meaning.specs.Numbers.{Seen, _from_, seen}
-use Rattle.width.specs.Count.{isAtLeast}
+use Rattle.width.specs.Count.{counted, widthOf}
 
 -- ---- texts
 
@@ -67,8 +67,8 @@ engine out queue lines =
 -- ---- the cases
 
 pub data Case : Type 0 where
-  -- a text of one span, a number: are there more characters?
-  longer : List ℕ → ℕ → Bool → Case
+  -- a text of one span, a limit: how wide is it, counted up to one above the limit?
+  wide : List ℕ → ℕ → ℕ → Case
   -- an engine and calls: what is answered to the last, what is then the output, and how many wait
   session : World → List Call → Seen → List ℕ → ℕ → Case
 
@@ -77,10 +77,6 @@ same [] [] = true
 same [] (b ∷ bs) = false
 same (a ∷ as′) [] = false
 same (a ∷ as′) (b ∷ bs) = eqb a b && same as′ bs
-
-abbrev pub agree : Bool → Bool → Bool
-agree true b = b
-agree false b = not b
 
 -- calls one by one; the answer is the last one's
 unfoldable pub calls : Result → List Call → Result
@@ -95,8 +91,8 @@ fits r s out n =
     && eqb (length (r .left .state .queue)) n))
 
 unfoldable pub passes : Case → Bool
-unfolding isAtLeast
-passes (longer bs n yes-or-no) = agree (isAtLeast bs (spanOf 0 (length bs)) n) yes-or-no
+unfolding counted widthOf
+passes (wide bs limit n) = eqb (widthOf bs (spanOf 0 (length bs)) limit) n
 passes (session w cs s out n) = fits (calls (result Done w) cs) s out n
 
 abbrev pub allPass : List Case → Bool
@@ -109,9 +105,9 @@ done = 0 from 0
 -- P1 to P10, in order
 abbrev pub table : List Case
 table =
-    longer (replicate 80 0x61) 80 false
-    ∷ longer (replicate 81 0x61) 80 true
-    ∷ longer (replicate 80 0x61 ++ (0xE3 ∷ 0x80 ∷ 0x80 ∷ [])) 80 false
+    wide (replicate 80 0x61) 80 80
+    ∷ wide (replicate 81 0x61) 80 81
+    ∷ wide (replicate 80 0x61 ++ (0xE3 ∷ 0x80 ∷ 0x80 ∷ [])) 80 80
     ∷ session (engine a (lineNote 0 ∷ []) 0) (Nl 1 ∷ []) done (a ++ sp ++ note) 0
     ∷ session (engine a (lineNote 1 ∷ []) 0) (Nl 1 ∷ []) done a 1
     ∷ session (engine a (lineNote 0 ∷ blockNote ∷ []) 0) (Ws ∷ []) done a 2

@@ -1,12 +1,12 @@
 -- What callers may rely on: White_Space among the bytes of ASCII, and where it ends. Assumes nothing.
-use mathlib.Core.Path.{_≡_, refl, sym}
+use mathlib.Core.Path.{_≡_, refl, sym, _∙_}
 use mathlib.Core.Logic.{⊎-elim}
 use mathlib.Core.Bool.{Bool, true, false, cond, _&&_, _||_}
 use mathlib.Core.List.{List, [], _∷_}
-use Prim.Native.Nat.{ℕ, _<_}
+use Prim.Native.Nat.{ℕ, _≤_, _<_}
 use native.Mathlib.Omega.{arith}
 use lib.Dec.{leb, ltb, eqb}
-use borrow.Author.Tests.{leb-true, lt-leb, lt-ltb, le-ltb, ne-eqb}
+use borrow.Author.Tests.{leb-true, le-leb, lt-leb, lt-ltb, le-ltb, eq-eqb, ne-eqb}
 use Rattle.white.specs.White.{mem, whites, isWhite, whiteByte}
 use Rattle.white.proofs.Bools.{and-l, and-r, and-false, below-at, le-or-lt}
 
@@ -42,8 +42,18 @@ unfolding isWhite mem whites
 white-plain b h = same-true (eqb b 0x20 || (leb 0x09 b && leb b 0x0D)) (isWhite b) (below-at 0x80 (λ k. same (eqb k 0x20 || (leb 0x09 k && leb k 0x0D)) (isWhite k)) refl b h)
 
 -- the test of the code, at every number
-pub byte-test : (b : ℕ) → eqb b 0x20 || (leb 0x09 b && leb b 0x0D) ≡ whiteByte b
+byte-test : (b : ℕ) → eqb b 0x20 || (leb 0x09 b && leb b 0x0D) ≡ whiteByte b
 byte-test b = ⊎-elim (λ h. rw (le-ltb b 0x80 h, ne-eqb b 0x20 (λ e. omega arith), lt-leb b 0x0D (omega arith), and-false)) (λ h. rw (lt-ltb b 0x80 h) (white-plain b h)) (le-or-lt 0x80 b)
+
+-- the same by the code's three ways
+pub byte-space : (b : ℕ) → b ≡ 0x20 → true ≡ whiteByte b
+byte-space b e = sym (rw (eq-eqb b 0x20 e)) ∙ byte-test b
+
+pub byte-low : (b : ℕ) → (b ≡ 0x20 → ⊥) → b < 0x09 → false ≡ whiteByte b
+byte-low b ne h = sym (rw (ne-eqb b 0x20 ne, lt-leb 0x09 b h)) ∙ byte-test b
+
+pub byte-high : (b : ℕ) → (b ≡ 0x20 → ⊥) → 0x09 ≤ b → leb b 0x0D ≡ whiteByte b
+byte-high b ne h = sym (rw (ne-eqb b 0x20 ne, le-leb 0x09 b h)) ∙ byte-test b
 
 -- a plain byte is White_Space as a byte exactly if it is as a code point
 pub white-byte : (b : ℕ) → b < 0x80 → whiteByte b ≡ isWhite b

@@ -11,7 +11,11 @@ use Rattle.width.specs.Count.{dark, counted, placeFrom, placeOf}
 sample : List ℕ
 sample = 0x61 ∷ 0xE3 ∷ 0x80 ∷ 0x80 ∷ 0x62 ∷ 0xC3 ∷ 0xA9 ∷ 0x20 ∷ 0x7A ∷ []
 
--- up to one above the limit
+-- up to one above the limit; 0 of an empty text, at limit 0, too
+empty : counted 0 [] ≡ 0
+unfolding charsFrom dark counted
+empty = refl
+
 counts : map (λ (n : ℕ). counted n sample) (0 ∷ 2 ∷ 3 ∷ 4 ∷ 5 ∷ []) ≡ 1 ∷ 3 ∷ 4 ∷ 4 ∷ 4 ∷ []
 unfolding table allIn lenBy charLen code charsFrom isWhite mem whites dark counted sample
 counts = refl

@@ -1,25 +1,56 @@
 -- What callers may rely on. Assumes nothing.
-use mathlib.Core.Path.{_≡_, refl, ap, _∙_}
-use mathlib.Core.Bool.{Bool, true, false}
-use mathlib.Core.List.{List}
-use Prim.Native.Nat.{ℕ, suc, min}
+use mathlib.Core.Path.{_≡_, refl, sym, ap, _∙_}
+use mathlib.Core.Bool.{Bool, true, false, cond}
+use mathlib.Core.List.{List, [], _∷_}
+use Prim.Native.Nat.{ℕ, zero, suc, pred, min, _≤_}
 use native.Mathlib.Omega.{arith}
-use lib.Dec.{ltb}
-use borrow.Author.Tests.{ltb-true, ltb-false, lt-ltb, le-ltb}
+use lib.Dec.{ltb, eqb}
+use lib.ListN.{length}
+use borrow.Author.Tests.{ltb-true, ltb-false, eq-eqb, ne-eqb}
+use Rattle.unicode.specs.Utf8.{charLen}
+use Rattle.white.specs.White.{isWhite}
 use Rattle.text.specs.declared.span.Span.{Span}
 use Rattle.text.specs.Span.{textOf}
-use Rattle.text.specs.Chars.{chars}
-use Rattle.width.specs.Count.{dark, counted, isAtLeast}
+use Rattle.text.specs.Chars.{charsFrom, chars}
+use Rattle.width.specs.Count.{dark, counted, widthOf, isWide}
 
--- n is passed by d exactly where it is passed by the smaller of n + 1 and d
-passed : (n d m : ℕ) → m ≡ min (suc n) d → ltb n m ≡ ltb n d
-passed n d m e = go (ltb n d) refl
+-- the smaller of limit + 1 and d is limit + 1 exactly where d passes the limit
+reached : (limit d : ℕ) → eqb (min (suc limit) d) (suc limit) ≡ ltb limit d
+reached limit d = go (ltb limit d) refl
   where
-    go : (t : Bool) → ltb n d ≡ t → ltb n m ≡ t
-    go true h = lt-ltb n m (omega (arith, e, ltb-true n d h))
-    go false h = le-ltb n m (omega (arith, e, ltb-false n d h))
+    go : (t : Bool) → ltb limit d ≡ t → eqb (min (suc limit) d) (suc limit) ≡ t
+    go true h = eq-eqb (min (suc limit) d) (suc limit) (omega (arith, ltb-true limit d h))
+    go false h = ne-eqb (min (suc limit) d) (suc limit) (λ e. omega (arith, e, ltb-false limit d h))
 
--- the width question, asked of a count that stops one above its limit
-pub at-least : (src : List ℕ) (span : Span) (n : ℕ) {text : List ℕ} {m : ℕ} → text ≡ textOf src span → m ≡ counted n text → ltb n m ≡ isAtLeast src span n
-unfolding counted isAtLeast
-at-least src span n {text} {m} e h = passed n _ m (h ∙ ap (λ (s : List ℕ). min (suc n) (dark (chars s))) e)
+-- wide is what document 01 asks: the span has more characters outside White_Space than the limit
+pub more : (src : List ℕ) (span : Span) (limit : ℕ) → isWide src span limit ≡ ltb limit (dark (chars (textOf src span)))
+unfolding counted widthOf
+more src span limit = reached limit (dark (chars (textOf src span)))
+
+-- the count is the width of the span that the text was taken of
+pub width-of : (src : List ℕ) (span : Span) (limit : ℕ) {text : List ℕ} {m : ℕ} → text ≡ textOf src span → m ≡ counted limit text → m ≡ widthOf src span limit
+unfolding widthOf
+width-of src span limit e h = h ∙ ap (counted limit) e
+
+-- ---- few bytes have few characters
+
+dark-few : (cs : List ℕ) → dark cs ≤ length cs
+unfolding dark
+dark-few [] = omega arith
+dark-few (c ∷ cs) = go (isWhite c) (dark-few cs)
+  where
+    go : (w : Bool) → dark cs ≤ length cs → cond w (dark cs) (suc (dark cs)) ≤ suc (length cs)
+    go true h = omega (arith, h)
+    go false h = omega (arith, h)
+
+chars-few : (k : ℕ) (s : List ℕ) → length (charsFrom k s) ≤ length s
+unfolding charsFrom
+chars-few k [] = omega arith
+chars-few (suc k) (b ∷ bs) = omega (arith, chars-few k bs)
+chars-few zero (b ∷ bs) = omega (arith, chars-few (pred (charLen (b ∷ bs))) bs)
+
+pub few-bytes : (src : List ℕ) (span : Span) (limit : ℕ) → length (textOf src span) ≤ limit → false ≡ isWide src span limit
+unfolding counted widthOf
+few-bytes src span limit h =
+    let text = textOf src span in
+    sym (ne-eqb (min (suc limit) (dark (chars text))) (suc limit) (λ e. omega (arith, e, h, dark-few (chars text), chars-few 0 text)))

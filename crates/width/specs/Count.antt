@@ -2,7 +2,7 @@
 use Prim.Native.Nat.{ℕ, zero, suc, pred, _+_, min}
 use mathlib.Core.Bool.{Bool, cond}
 use mathlib.Core.List.{List, [], _∷_}
-use lib.Dec.{ltb}
+use lib.Dec.{eqb}
 use Rattle.unicode.specs.Utf8.{charLen}
 use Rattle.white.specs.White.{isWhite}
 use Rattle.text.specs.declared.span.BytePos.{BytePos}
@@ -19,9 +19,13 @@ dark (c ∷ cs) = cond (isWhite c) (dark cs) (suc (dark cs))
 unfoldable pub counted : ℕ → List ℕ → ℕ
 counted limit s = min (suc limit) (dark (chars s))
 
--- the width question that the layout rules ask: the span has more than n characters outside White_Space
-unfoldable pub isAtLeast : List ℕ → Span → ℕ → Bool
-isAtLeast src span n = ltb n (dark (chars (textOf src span)))
+-- the width question that the layout rules ask: how many characters of the span are outside White_Space, up to one above the limit
+unfoldable pub widthOf : List ℕ → Span → ℕ → ℕ
+widthOf src span limit = counted limit (textOf src span)
+
+-- more than the limit: the count is limit plus one
+abbrev pub isWide : List ℕ → Span → ℕ → Bool
+isWide src span limit = eqb (widthOf src span limit) (suc limit)
 
 -- ---- the place of a counted character
 

@@ -13,12 +13,12 @@ returns c =
 returns-2 : tie.Need-returns-2
 returns-2 c =
     let at-node = c .before .before .before in let at-if1 = at-node .before in let start = at-if1 .before .before .before .before in
-    chain-breaks (scriptOf (start .args .src .now) (start .args .table .now)) (start .args .k) (start .args .head) (at-if1 .if1 .left) (rw (at-node .node .ensures) at (c .before .before .is-at-least .ensures)) (c .before .if2 .taken) (c .breaks-at .ensures)
+    chain-breaks (scriptOf (start .args .src .now) (start .args .table .now)) (start .args .k) (start .args .head) (at-if1 .if1 .left) (rw (at-node .node .ensures) at (c .before .before .is-wide .ensures)) (c .before .if2 .taken) (c .breaks-at .ensures)
 
 returns-3 : tie.Need-returns-3
 returns-3 c =
     let at-if1 = c .before .before .before in let start = at-if1 .before .before .before .before in
-    chain-fits (scriptOf (start .args .src .now) (start .args .table .now)) (start .args .k) (start .args .head) (at-if1 .if1 .left) (rw (c .before .before .node .ensures) at (c .before .is-at-least .ensures)) (c .if2 .left)
+    chain-fits (scriptOf (start .args .src .now) (start .args .table .now)) (start .args .k) (start .args .head) (at-if1 .if1 .left) (rw (c .before .before .node .ensures) at (c .before .is-wide .ensures)) (c .if2 .left)
 
 pub chain-from-spec : {M : Type 1} → statement M
 chain-from-spec =

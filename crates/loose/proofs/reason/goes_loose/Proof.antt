@@ -9,12 +9,12 @@ use Rattle.loose.proofs.reason.goes_loose.Tie as tie
 returns : tie.Need-returns
 returns c =
     let start = c .before .before .before .before .before in
-    ap isLoose (too-wide (scriptOf (start .args .src .now) (start .args .table .now)) _ (start .args .k) (start .args .from .0) (rw (c .before .before .node .ensures) at (c .before .is-at-least .ensures)) (c .if1 .taken) refl)
+    ap isLoose (too-wide (scriptOf (start .args .src .now) (start .args .table .now)) _ (start .args .k) (start .args .from .0) (rw (c .before .before .node .ensures) at (c .before .is-wide .ensures)) (c .if1 .taken) refl)
 
 returns-2 : tie.Need-returns-2
 returns-2 c =
-    let at-is-at-least = c .before .before .before in let at-node = at-is-at-least .before in let start = at-node .before .before .before in
-    c .is-loose .ensures ∙ ap isLoose (by-crowd (scriptOf (start .args .src .now) (start .args .table .now)) _ (start .args .k) (start .args .from .0) (rw (at-node .node .ensures) at (at-is-at-least .is-at-least .ensures)) (c .before .before .if1 .left) (c .before .crowd .ensures))
+    let at-is-wide = c .before .before .before in let at-node = at-is-wide .before in let start = at-node .before .before .before in
+    c .is-loose .ensures ∙ ap isLoose (by-crowd (scriptOf (start .args .src .now) (start .args .table .now)) _ (start .args .k) (start .args .from .0) (rw (at-node .node .ensures) at (at-is-wide .is-wide .ensures)) (c .before .before .if1 .left) (c .before .crowd .ensures))
 
 pub goes-loose-spec : {M : Type 1} → statement M
 goes-loose-spec =
