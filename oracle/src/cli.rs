@@ -6,7 +6,6 @@ use std::{env, fs};
 use crate::call::{layout_step, run_step};
 use crate::case::{self, Case, ROOM};
 use crate::compare::{self, Stats};
-use crate::docengine::Trim;
 use crate::gen::{self, FAMILIES};
 use crate::kinds::KIND_NAME;
 use crate::{edge, opening, readings, record, selftest, speed, sx};
@@ -29,8 +28,8 @@ const HELP: &str = "oracle COMMAND [--cap N]
   compare opening SEED COUNT          the opening checks, done in two ways
   swallow FAMILY SEED COUNT    layouts with text behind a line comment on its line
   record trees FILE            recorded trees
-  record calls FILE            recorded histories; `--trim white-space`: as request (i) has it
-  record runs FILE             recorded histories with layout runs; the same option
+  record calls FILE            recorded histories of calls
+  record runs FILE             recorded histories with layout runs
   record planted FILE          histories of which one number or byte each is wrong
   replay calls|runs FILE       a recorded file's steps once more, against what it holds
   bench SRC TREE [ROUNDS]      speed of the whole layout
@@ -78,13 +77,8 @@ fn option(args: &mut Vec<String>, name: &str) -> Option<String> {
 pub fn main() {
     let mut args: Vec<String> = env::args().skip(1).collect();
     let cap = option(&mut args, "--cap").map_or(ROOM, |n| number(&n));
-    let trim = match option(&mut args, "--trim").as_deref() {
-        None => Trim::Three,
-        Some("white-space") => Trim::WhiteSpace,
-        Some(_) => help(),
-    };
     let args: Vec<&str> = args.iter().map(|a| a.as_str()).collect();
-    if !(on_files(&args, cap) || on_families(&args) || on_recorded(&args, trim)) {
+    if !(on_files(&args, cap) || on_families(&args) || on_recorded(&args)) {
         help();
     }
 }
@@ -155,15 +149,15 @@ fn on_families(args: &[&str]) -> bool {
 }
 
 /// What needs no input.
-fn on_recorded(args: &[&str], trim: Trim) -> bool {
+fn on_recorded(args: &[&str]) -> bool {
     match *args {
         ["selftest"] => exit_on(selftest::run()),
         ["compare", "opening", seed, count] => {
             exit_on(compare::openings(number(seed), number(count)))
         }
         ["record", "trees", file] => write(file, record::trees()),
-        ["record", "calls", file] => write(file, record::calls(trim)),
-        ["record", "runs", file] => write(file, record::runs(trim)),
+        ["record", "calls", file] => write(file, record::calls()),
+        ["record", "runs", file] => write(file, record::runs()),
         ["record", "planted", file] => write(file, record::planted()),
         ["replay", "calls", file] => exit_on(record::replay(&read(file), false)),
         ["replay", "runs", file] => exit_on(record::replay(&read(file), true)),

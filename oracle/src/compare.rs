@@ -5,7 +5,7 @@ use std::collections::BTreeMap;
 use crate::alloc;
 use crate::call::{script, Step};
 use crate::case::{self, Case, Outcome};
-use crate::docengine::{DocEngine, Piece, Trim};
+use crate::docengine::{DocEngine, Piece};
 use crate::engine::Engine;
 use crate::gen::{self, Rng};
 use crate::grammar::{Rec, Tree};
@@ -19,11 +19,10 @@ pub fn first_difference(
     tree: &Tree,
     cap: usize,
     steps: &[Step<'_>],
-    trim: Trim,
 ) -> (Option<usize>, usize) {
     let (mut buffer, mut diagnostics) = (alloc::String::with_cap(cap), Diagnostics);
     let mut rust = Engine::new(source, tree, &mut buffer, &mut diagnostics);
-    let mut words = DocEngine::new(source, &tree.records, cap, trim);
+    let mut words = DocEngine::new(source, &tree.records, cap);
     let mut calls = 0;
     let parts = |step: &Step<'_>| {
         rust.fmt.trace = Some(vec![]);
@@ -65,11 +64,10 @@ fn as_one(
     Some(Ok(()))
 }
 
-/// `compare engines`: a family, step by step, by both rules of trimming. A run and
-/// a layout count as their calls. Says whether nothing is left to explain.
+/// `compare engines`: a family, step by step. A run and a layout count as their
+/// calls. Says whether nothing is left to explain.
 pub fn engines(family: &str, cases: impl Iterator<Item = Case>) -> bool {
-    let (mut histories, mut calls) = (0, [0; 2]);
-    let mut different = [0; 2];
+    let (mut histories, mut calls, mut different) = (0, 0, 0);
     for (i, case) in cases.enumerate() {
         let Ok(tree) = opening::open(&case.source, &case.tree) else {
             continue;
@@ -77,24 +75,16 @@ pub fn engines(family: &str, cases: impl Iterator<Item = Case>) -> bool {
         let source = std::str::from_utf8(&case.source).unwrap();
         let steps: Vec<Step> = script(&case.steps).iter().map(|s| s.1).collect();
         histories += 1;
-        for (n, trim) in [Trim::Three, Trim::WhiteSpace].into_iter().enumerate() {
-            let (at, made) = first_difference(source, &tree, case.cap, &steps, trim);
-            calls[n] += made;
-            different[n] += at.is_some() as usize;
-            if let (Some(at), Trim::WhiteSpace) = (at, trim) {
-                println!("case {i} step {at} {:?} parts", steps[at]);
-            }
+        let (at, made) = first_difference(source, &tree, case.cap, &steps);
+        calls += made;
+        if let Some(at) = at {
+            different += 1;
+            println!("case {i} step {at} {:?} parts", steps[at]);
         }
     }
     println!("{family}: {histories} histories");
-    for (n, rule) in ["document 01's trimming", "White_Space trimmed"]
-        .iter()
-        .enumerate()
-    {
-        let (made, parted) = (calls[n], different[n]);
-        println!("  {rule:24} {made} calls compared, {parted} histories part");
-    }
-    different[1] == 0
+    println!("  {calls} calls compared, {different} histories part");
+    different == 0
 }
 
 fn call_of(step: Step<'_>) -> &[u8] {
@@ -280,7 +270,7 @@ pub fn swallow(family: &str, cases: impl Iterator<Item = Case>) {
             continue;
         }
         layouts += 1;
-        let mut words = DocEngine::new(source, &tree.records, case.cap, Trim::WhiteSpace);
+        let mut words = DocEngine::new(source, &tree.records, case.cap);
         for (_, step) in script(&trace) {
             // a refused call, in a case of calls alone, writes nothing
             let _ = words.call(call_of(step));

@@ -5,15 +5,6 @@ use crate::grammar::Rec;
 use crate::refusal::Refusal;
 use crate::state::{State, Waiting};
 
-/// What a line comment loses at its end.
-#[derive(Clone, Copy, PartialEq, Eq)]
-pub enum Trim {
-    /// document 01: spaces, tabs, carriage returns
-    Three,
-    /// request (i) of document 02, and the Rust: all of White_Space
-    WhiteSpace,
-}
-
 /// What a call wrote.
 #[derive(Debug, Clone, PartialEq, Eq)]
 pub enum Piece {
@@ -39,7 +30,9 @@ pub struct DocEngine<'a> {
     source: &'a str,
     records: &'a [Rec],
     cap: usize,
-    trim: Trim,
+    /// what is left of a line comment: all White_Space goes from its end, as request
+    /// (i) of document 02 reads document 01's trimming
+    pub trim: fn(&str) -> &str,
     pub state: State,
     pub output: String,
     /// the output in pieces
@@ -47,12 +40,12 @@ pub struct DocEngine<'a> {
 }
 
 impl<'a> DocEngine<'a> {
-    pub fn new(source: &'a str, records: &'a [Rec], cap: usize, trim: Trim) -> Self {
+    pub fn new(source: &'a str, records: &'a [Rec], cap: usize) -> Self {
         Self {
             source,
             records,
             cap,
-            trim,
+            trim: str::trim_end,
             state: State::default(),
             output: String::new(),
             pieces: vec![],
@@ -262,11 +255,8 @@ impl Work<'_, '_> {
 
     fn trimmed(&self, c: &Waiting) -> String {
         let text = self.text_of(c);
-        match (c.line, self.on.trim) {
-            (false, _) => text.to_string(),
-            (true, Trim::Three) => text.trim_end_matches([' ', '\t', '\r']).to_string(),
-            (true, Trim::WhiteSpace) => text.trim_end().to_string(),
-        }
+        let text = if c.line { (self.on.trim)(text) } else { text };
+        text.to_string()
     }
 
     fn line_release(&mut self, same_line_only: bool) {

@@ -4,7 +4,7 @@ use crate::alloc;
 use crate::ast::{Kind, Span};
 use crate::call::Call;
 use crate::case::{self, Case};
-use crate::docengine::{DocEngine, Trim};
+use crate::docengine::DocEngine;
 use crate::engine::Engine;
 use crate::fmt::format::has_rule;
 use crate::fmt::Formatter;
@@ -181,7 +181,7 @@ fn run_session(report: &mut Report, s: &Session) {
     let tree = Tree::new(records);
     let (mut buffer, mut diagnostics) = (alloc::String::with_cap(100), Diagnostics);
     let mut engine = Engine::new(&source, &tree, &mut buffer, &mut diagnostics);
-    let mut words = DocEngine::new(&source, &tree.records, 100, Trim::Three);
+    let mut words = DocEngine::new(&source, &tree.records, 100);
     let mut refused = None;
     let mut same = true;
     for call in s.calls {

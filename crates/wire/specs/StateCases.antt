@@ -6,7 +6,7 @@ use lib.ListN.{length, take, drop, replicate}
 use lib.Dec.{eqb}
 use Rattle.tree.specs.Records.{spanOf}
 use Rattle.meaning.specs.State.{Comment, State}
-use Rattle.meaning.specs.Cases.{same, agree}
+use Rattle.meaning.specs.Cases.{same}
 use Rattle.wire.specs.Words.{inBytes}
 use Rattle.wire.specs.StateBytes.{shaped, stateIn, bytesOf}
 
@@ -44,6 +44,10 @@ pub data Row : Type 0 where
   written : State → List ℕ → Row
   -- bytes beside a buffer of so many: have they the shape?
   shape : List ℕ → ℕ → Bool → Row
+
+abbrev pub agree : Bool → Bool → Bool
+agree true b = b
+agree false b = not b
 
 sameComments : List Comment → List Comment → Bool
 sameComments [] [] = true

@@ -99,9 +99,10 @@ const WIDE_SPACES: &[&str] = &[
     "\u{2003}\n",
     "\u{000B}",
 ];
-/// White_Space that only the Rust trims, and U+200B, which isn't White_Space.
-const TRIMMED_BY_RUST: &[&str] = &[
-    "\u{3000}", "\u{00A0}", " ", "\u{000C}", "\u{0085}", "\u{2028}", "\n", "\u{200B}",
+/// White_Space beyond space, tab and carriage return, U+200B, which is none, and
+/// letters whose last byte is a blank by itself.
+const LAST: &[&str] = &[
+    "\u{3000}", "\u{00A0}", " ", "\u{000C}", "\u{0085}", "\u{2028}", "\n", "\u{200B}", "ą", "à",
 ];
 
 pub(super) fn is_word(c: char) -> bool {
@@ -230,7 +231,7 @@ impl Builder {
         }
         if self.opts.trim_all && self.rng.one_in(2) {
             for _ in 0..1 + self.rng.below(3) {
-                text += self.rng.pick(TRIMMED_BY_RUST);
+                text += self.rng.pick(LAST);
             }
         }
         if self.odd() {

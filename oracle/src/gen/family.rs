@@ -12,12 +12,12 @@ pub const FAMILIES: &[(&str, &str)] = &[
     ("calls", "histories of calls over small trees"),
     (
         "trimcalls",
-        "the same, with line comments that only the Rust trims whole",
+        "the same, with line comments that end in White_Space of every sort",
     ),
     ("layout", "whole layouts of programs"),
     (
         "trim",
-        "the same, with line comments that only the Rust trims whole",
+        "the same, with line comments that end in White_Space of every sort",
     ),
     (
         "focus",

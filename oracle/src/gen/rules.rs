@@ -65,11 +65,8 @@ fn damaged_runs(
         damage = patient.damage_in_good_tree(rng);
     }
     let Patient {
-        source,
-        mut records,
-        ..
+        source, records, ..
     } = patient;
-    part_from_trimming(&source, &mut records);
     let steps = steps(rng, &records).concat();
     let mut case = Case {
         damage,
@@ -249,17 +246,5 @@ fn between(rng: &mut Rng) -> Call {
         4 => Call::Lit(rng.below(8) as u8),
         5 => Call::Indent(rng.pick(&[1, -1])),
         _ => Call::Comments(rng.below(4) as u8),
-    }
-}
-
-/// White space or a token that a damage made a line comment: one that the Rust
-/// trims otherwise than document 01 becomes a block comment.
-fn part_from_trimming(source: &[u8], records: &mut [Rec]) {
-    let source = std::str::from_utf8(source).expect("a good source");
-    for r in records.iter_mut().filter(|r| r.kind == LINE_COMMENT) {
-        let text = &source[r.span().range()];
-        if text.trim_end() != text.trim_end_matches([' ', '\t', '\r']) {
-            r.kind = BLOCK_COMMENT;
-        }
     }
 }

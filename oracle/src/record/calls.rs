@@ -4,22 +4,20 @@ use std::collections::BTreeSet;
 use super::histories;
 use super::history::{Made, Recorded};
 use crate::call::{Call, Step};
-use crate::docengine::Trim;
 
 /// The file's bytes; prints how many histories of each sort they hold.
-pub fn record(trim: Trim) -> Vec<u8> {
+pub fn record() -> Vec<u8> {
     let mut recorded = Recorded::default();
     let mut reach = Reach::default();
     for history in histories::all() {
-        recorded.add(&history, trim, &mut |made| reach.note(made));
+        recorded.add(&history, &mut |made| reach.note(made));
     }
     let bytes = recorded.file();
     println!(
-        "{} histories, {} calls, {} bytes, {} left out for their trimming",
+        "{} histories, {} calls, {} bytes",
         recorded.histories,
         recorded.steps,
-        bytes.len(),
-        recorded.left_out
+        bytes.len()
     );
     recorded.sorts.show();
     reach.show();

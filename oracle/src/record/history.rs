@@ -7,7 +7,6 @@ use crate::alloc;
 use crate::call::{self, Step};
 use crate::case::ROOM;
 use crate::compare::first_difference;
-use crate::docengine::Trim;
 use crate::engine::Engine;
 use crate::grammar::Tree;
 use crate::opening::open;
@@ -96,7 +95,6 @@ pub struct Largest {
 pub struct Recorded {
     pub histories: usize,
     pub steps: usize,
-    pub left_out: usize,
     pub sorts: Sorts,
     /// those with a refused step
     pub refused: Sorts,
@@ -105,20 +103,13 @@ pub struct Recorded {
 }
 
 impl Recorded {
-    /// `trim`: by which rule a line comment is trimmed; a history that the Rust
-    /// answers otherwise is left out. `note` is told of each step.
-    pub fn add(&mut self, h: &History, trim: Trim, note: &mut dyn FnMut(&Made)) {
+    /// A history, on which the two engines may not part. `note` is told of each step.
+    pub fn add(&mut self, h: &History, note: &mut dyn FnMut(&Made)) {
         let (source, tree) = (h.source(), h.tree());
         let cap = h.room();
         let steps = h.read();
-        let parts = |trim| first_difference(&source, &tree, cap, &steps, trim).0;
-        if parts(trim).is_some() {
-            // Nothing but the rule of trimming may be the cause.
-            let other = parts(Trim::WhiteSpace);
-            assert_eq!(other, None, "{}: the engines part", h.sort);
-            self.left_out += 1;
-            return;
-        }
+        let (parts, _) = first_difference(&source, &tree, cap, &steps);
+        assert_eq!(parts, None, "{}: the engines part", h.sort);
         h.source.put(&mut self.bytes);
         h.tree.put(&mut self.bytes);
         put_u32(&mut self.bytes, cap);

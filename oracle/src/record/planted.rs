@@ -2,7 +2,6 @@
 //! program that replays them must find each, in that part and in no other.
 use super::history::{History, Recorded};
 use super::put_u32;
-use crate::docengine::Trim;
 use crate::grammar::Rec;
 
 /// One name is written, and the comment behind it waits.
@@ -28,7 +27,7 @@ const ANSWER: usize = WORDS + 8;
 /// The file's bytes; prints how many are wrong in each part.
 pub fn record() -> Vec<u8> {
     let mut recorded = Recorded::default();
-    recorded.add(&history(), Trim::Three, &mut |_| ());
+    recorded.add(&history(), &mut |_| ());
     let right = recorded.file()[4..].to_vec();
     let at = |back: usize| right.len() - back;
     let one_more = |place: usize| {

@@ -4,26 +4,24 @@ use std::collections::BTreeMap;
 use super::history::{Made, Recorded};
 use super::rules;
 use crate::call::Step;
-use crate::docengine::Trim;
 use crate::fmt::format::has_rule;
 use crate::kinds::KIND_NAME;
 
 /// The file's bytes; prints how many histories of each sort they hold, and how the
 /// runs on each kind end.
-pub fn record(trim: Trim) -> Vec<u8> {
+pub fn record() -> Vec<u8> {
     let mut recorded = Recorded::default();
     let mut answers = Answers::default();
     for history in rules::all() {
-        recorded.add(&history, trim, &mut |made| answers.note(made));
+        recorded.add(&history, &mut |made| answers.note(made));
     }
     let bytes = recorded.file();
     println!(
-        "{} histories, {} steps, {} of them runs, {} bytes, {} left out for their trimming",
+        "{} histories, {} steps, {} of them runs, {} bytes",
         recorded.histories,
         recorded.steps,
         answers.runs(),
-        bytes.len(),
-        recorded.left_out
+        bytes.len()
     );
     println!("  histories of a sort, and those with a refused step:");
     recorded.sorts.show_beside(&recorded.refused);
@@ -47,7 +45,7 @@ pub fn record(trim: Trim) -> Vec<u8> {
 pub fn make() {
     let mut recorded = Recorded::default();
     for history in rules::all() {
-        recorded.add(&history, Trim::WhiteSpace, &mut |_| ());
+        recorded.add(&history, &mut |_| ());
     }
 }
 

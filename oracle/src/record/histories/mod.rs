@@ -16,6 +16,7 @@ pub fn all() -> Vec<History> {
     releases::each(&mut all);
     releases::two(&mut all);
     releases::on_empty_output(&mut all);
+    releases::trimming(&mut all);
     counts::flushes(&mut all);
     counts::literals(&mut all);
     counts::indents(&mut all);

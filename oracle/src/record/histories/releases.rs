@@ -119,3 +119,42 @@ pub fn on_empty_output(all: &mut Vec<History>) {
     let calls = [FlushPrefixComments, WriteOwned(6), FlushPrefixComments];
     all.push(history(sort, leading, &calls));
 }
+
+/// Every character of White_Space.
+const WHITE: &str = "\u{9}\u{A}\u{B}\u{C}\u{D}\u{20}\u{85}\u{A0}\u{1680}\u{2000}\u{2001}\u{2002}\u{2003}\
+     \u{2004}\u{2005}\u{2006}\u{2007}\u{2008}\u{2009}\u{200A}\u{2028}\u{2029}\u{202F}\u{205F}\u{3000}";
+
+/// What a comment may end in: each sort of White_Space, alone, behind a letter
+/// whose last byte is a blank by itself, and many in a row; White_Space with
+/// something behind it; nothing but `//` and blanks; and characters beside the
+/// ranges, which stay.
+pub fn trimming(all: &mut Vec<History>) {
+    let mut ends: Vec<String> = vec![];
+    for c in WHITE.chars() {
+        ends.extend([c.to_string(), format!("x{c}"), format!("ą{c} {c}")]);
+    }
+    ends.extend([WHITE.into(), format!("x{WHITE}y"), WHITE.repeat(3)]);
+    ends.extend(["ą", "à", "x\n\u{3000}y \u{3000}", "x\n", "\n\n", "\r\n"].map(String::from));
+    let beside = "\u{1C}\u{1D}\u{1E}\u{1F}\u{8}\u{E}\u{84}\u{86}\u{9F}\u{A1}\u{180E}\u{200B}\u{2027}\u{202A}\u{2060}\u{3001}\u{FEFF}";
+    ends.extend(beside.chars().map(|c| format!("x {c}")));
+    ends.extend([" ".repeat(300), "\u{3000}".repeat(100), "🦀\u{2003}".into()]);
+    let escaped = |end: &str| -> String {
+        end.chars()
+            .map(|c| c.escape_unicode().to_string())
+            .collect()
+    };
+    let mut put = |comment: String, release| {
+        let tree = between_tokens(&comment);
+        let calls = [WriteOwned(0), release, Nl(1), WriteOwned(last_of(&tree))];
+        all.push(history("trimming", &tree, &calls));
+    };
+    for end in ends {
+        put(format!(r#"01"//{}" "#, escaped(&end)), Nl(1));
+    }
+    // a block comment and a space release keep all of it
+    let end = escaped(&format!("x{WHITE}"));
+    for release in RELEASES {
+        put(format!(r#"01"//{end}" "#), release);
+        put(format!(r#"02"/**/{end}" "#), release);
+    }
+}

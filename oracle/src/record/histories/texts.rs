@@ -4,7 +4,7 @@ use crate::call::Call::{self, Comments, Nl, WriteOwned, WriteRaw, Ws};
 use crate::gen::{self, Rng};
 use crate::record::history::History;
 
-/// White_Space that is no newline, and what document 01's trimming keeps.
+/// White_Space that is no newline, and what trimming keeps.
 const TREES: [&str; 3] = [
     r#"03"é" 00"\u{2028}\u{85}\u{3000}" 01"// 注釈 \t\r" 00"\u{2029}\n" 02"/*🦀\u{3000}*/"
        03"名前""#,
@@ -25,8 +25,8 @@ pub fn other_characters(all: &mut Vec<History>) {
     }
 }
 
-/// Over small trees; every third may end line comments in White_Space that
-/// document 01 doesn't trim.
+/// Over small trees; every third may end line comments in White_Space of every
+/// sort.
 pub fn random(all: &mut Vec<History>) {
     let mut rng = Rng::new(7);
     for i in 0..90 {

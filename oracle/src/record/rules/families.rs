@@ -69,6 +69,7 @@ fn first_of(all: &mut Vec<History>, sort: &'static str, seed: u64, n: usize, lea
 pub fn by_chance(all: &mut Vec<History>) {
     first_of(all, "runs", 1, 30, 4);
     first_of(all, "layout", 1, 25, 8);
+    first_of(all, "trim", 1, 12, 8);
     first_of(all, "damaged", 1, 30, 4);
     // one of each sort of expression, item and pattern
     for sort in 0..FOCUS {

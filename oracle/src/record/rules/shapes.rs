@@ -184,7 +184,7 @@ const OTHER_CHARACTERS: &[&str] = &[
     r#"(struct_body "{" "// 注釈 \t\r" "\n" (field "名前") "," "\u{85}\n" "//\u{3000}x  " "\r\n" "}")"#,
     r#"(item_use "use" "\u{3000}" "𝒳" "::" (item_use_group "{" "/*\u{A0}*/" (item_use_path "Ω") "}"))"#,
     r#"(variant "V" "//\u{200B}" "\n" (tuple_body "(" "/* \n */" (field "é") ")"))"#,
-    // only the Rust trims these whole
+    // trimmed by Unicode
     r#"(struct_body "{" "//\u{3000}" "\n" (field "a") "}")"#,
     r#"(item_enum "enum" "E" "{" "//x\u{A0} " "\n" "}")"#,
 ];

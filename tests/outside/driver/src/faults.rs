@@ -3,8 +3,6 @@
 use std::slice;
 use std::sync::atomic::{AtomicUsize, Ordering};
 
-use oracle::docengine::Trim;
-
 use crate::exported::Library;
 use crate::faulty_layouts::layout;
 use crate::faulty_runs::run;
@@ -26,7 +24,7 @@ faults!(
     NlOverwritesACount,
     LitClearsTheLines,
     FinishDropsTheQueue,
-    TrimsAllWhiteSpace,
+    TrimsThreeSorts,
     TouchesAByteBeyondTheNewLength,
     TouchesTheBufferWhereItRefuses,
     TouchesTheStateWhereItRefuses,
@@ -165,9 +163,9 @@ unsafe extern "C" fn call(
 /// The reference's answer to a state that the fault may have changed, changed by
 /// the fault once more.
 fn served(script: &Script, lent: &[u8], out_len: usize, record: &[u8]) -> Want {
-    let trim = match fault() {
-        Fault::TrimsAllWhiteSpace => Trim::WhiteSpace,
-        _ => Trim::Three,
+    let trim: fn(&str) -> &str = match fault() {
+        Fault::TrimsThreeSorts => |text| text.trim_end_matches([' ', '\t', '\r']),
+        _ => str::trim_end,
     };
     let mut state = lent.to_vec();
     if fault() == Fault::TakesAnyLengthOfState && lent.len() > STATE {

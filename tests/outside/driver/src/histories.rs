@@ -62,7 +62,7 @@ pub fn with_layouts(rng: &mut Rng, steps: Vec<Vec<u8>>) -> Vec<Vec<u8>> {
     all
 }
 
-/// Opens, and makes the steps, beside the Rust's own engine where both trim alike.
+/// Opens, and makes the steps, beside the Rust's own engine.
 pub fn replay(
     s: &mut Session,
     rng: &mut Rng,
@@ -82,13 +82,7 @@ pub fn replay(
         s.layout(script)?;
         return Ok(());
     }
-    if script.trims_alike() {
-        return replay_beside_rust(s, script, records);
-    }
-    for record in records {
-        s.step(script, record)?;
-    }
-    Ok(())
+    replay_beside_rust(s, script, records)
 }
 
 fn replay_beside_rust(

@@ -3,7 +3,7 @@
 //! is the calls that rune's format.rs makes. A function of what is lent, and of
 //! nothing else.
 use oracle::call::Step;
-use oracle::docengine::{DocEngine, Trim};
+use oracle::docengine::DocEngine;
 use oracle::grammar::{Rec, Tree};
 use oracle::refusal::Refusal;
 use oracle::{opening, opening_again};
@@ -47,18 +47,6 @@ impl Script {
 
     pub fn records(&self) -> &[Rec] {
         self.opened.as_ref().map_or(&[], |t| &t.records)
-    }
-
-    /// Do document 01 and the Rust trim every line comment alike (reading 1)?
-    pub fn trims_alike(&self) -> bool {
-        let Some((text, tree)) = self.good() else {
-            return false;
-        };
-        let alike = |r: &Rec| {
-            let comment = &text[r.start as usize..r.end as usize];
-            comment.trim_end() == comment.trim_end_matches([' ', '\t', '\r'])
-        };
-        tree.records.iter().filter(|r| r.kind == 1).all(alike)
     }
 }
 
@@ -116,11 +104,17 @@ pub fn open(script: &Script, state_len: usize) -> Want {
 }
 
 pub fn call(script: &Script, state: &[u8], out_len: usize, record: &[u8]) -> Want {
-    call_by(Trim::Three, script, state, out_len, record)
+    call_by(str::trim_end, script, state, out_len, record)
 }
 
 /// By another rule of trimming: one of the faults.
-pub fn call_by(trim: Trim, script: &Script, state: &[u8], out_len: usize, record: &[u8]) -> Want {
+pub fn call_by(
+    trim: fn(&str) -> &str,
+    script: &Script,
+    state: &[u8],
+    out_len: usize,
+    record: &[u8],
+) -> Want {
     let Some((text, tree)) = script.good() else {
         return Want::refused(*script.opened.as_ref().err().unwrap(), By::Opening);
     };
@@ -128,7 +122,8 @@ pub fn call_by(trim: Trim, script: &Script, state: &[u8], out_len: usize, record
         Ok(state) => state,
         Err(r) => return Want::refused(r, By::Lent),
     };
-    let mut engine = DocEngine::new(text, &tree.records, out_len, trim);
+    let mut engine = DocEngine::new(text, &tree.records, out_len);
+    engine.trim = trim;
     engine.state = state;
     match engine.call(record) {
         Err(r) => Want::refused(r, By::Call),
@@ -214,7 +209,7 @@ fn laid(altered: Altered, script: &Script, state: &[u8], out_len: usize, step: S
         return Want::refused(r, By::Call);
     }
     let plan = rules::plan(text, tree, &state, step);
-    let mut engine = DocEngine::new(text, &tree.records, out_len, Trim::Three);
+    let mut engine = DocEngine::new(text, &tree.records, out_len);
     engine.state = state;
     for call in altered(plan.calls) {
         if let Err(r) = engine.call(&call) {
