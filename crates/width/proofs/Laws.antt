@@ -2,7 +2,8 @@
 use mathlib.Core.Path.{_≡_, refl, sym, ap, _∙_}
 use mathlib.Core.Bool.{Bool, true, false, cond}
 use mathlib.Core.List.{List, [], _∷_}
-use Prim.Native.Nat.{ℕ, zero, suc, pred, min, _≤_}
+use Prim.Native.Nat.{ℕ, zero, suc, pred, _+_, min, _≤_}
+use native.Mathlib.Numerals.{add-one}
 use native.Mathlib.Omega.{arith}
 use lib.Dec.{ltb, eqb}
 use lib.ListN.{length}
@@ -31,6 +32,10 @@ more src span limit = reached limit (dark (chars (textOf src span)))
 pub width-of : (src : List ℕ) (span : Span) (limit : ℕ) {text : List ℕ} {m : ℕ} → text ≡ textOf src span → m ≡ counted limit text → m ≡ widthOf src span limit
 unfolding widthOf
 width-of src span limit e h = h ∙ ap (counted limit) e
+
+-- the code's test of it
+pub wide-at : (src : List ℕ) (span : Span) (limit : ℕ) {m : ℕ} → m ≡ widthOf src span limit → eqb m (limit + 1) ≡ isWide src span limit
+wide-at src span limit e = rw (add-one, e)
 
 -- ---- few bytes have few characters
 
