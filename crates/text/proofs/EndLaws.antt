@@ -116,10 +116,10 @@ ends s = go (endsWhite 1 s) (endsWhite 2 s) (endsWhite 3 s) refl refl refl
     at : (n : ℕ) → endsWhite (suc n) s ≡ true → Ends s (suc n)
     at n e = let o = ends-one n s e in some n (o .0) (o .1)
 
-    go : (t u v : Bool) → endsWhite 1 s ≡ t → endsWhite 2 s ≡ u → endsWhite 3 s ≡ v → Ends s (cond t 1 (cond u 2 (cond v 3 0)))
+    go : (t u v : Bool) → endsWhite 1 s ≡ t → endsWhite 2 s ≡ u → endsWhite 3 s ≡ v → Ends s (cond t 1 (cond v 3 (cond u 2 0)))
     go true u v p q r = at 0 p
-    go false true v p q r = at 1 q
-    go false false true p q r = at 2 r
+    go false u true p q r = at 2 r
+    go false true false p q r = at 1 q
     go false false false p q r = none (no-end s p q r)
 
 -- ---- the whole walk

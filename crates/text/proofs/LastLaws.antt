@@ -7,13 +7,14 @@ use native.Mathlib.Omega.{arith}
 use lib.Dec.{leb, ltb}
 use lib.ListN.{length, drop, getD, length-drop, drop-of-length-le}
 use lib.Seq.{drop-cons, getD-drop}
-use borrow.Author.Tests.{lt-leb, leb-true, eq-eqb, ne-eqb}
+use borrow.Author.Tests.{lt-leb, leb-true, ltb-true, eq-eqb, ne-eqb}
 use Rattle.unicode.specs.Utf8.{Row, cont, inRange, table, allIn, lenBy, charLen}
-use Rattle.white.specs.White.{isWhite}
+use Rattle.white.specs.White.{isWhite, whiteByte}
 use Rattle.text.specs.declared.chars.Char.{Char}
 use Rattle.text.specs.Chars.{code, stepOf, charAt}
 use Rattle.text.specs.Trim.{endsWhite, whiteEnd}
 use Rattle.white.proofs.Bools.{and-l, and-r, and-false}
+use Rattle.white.proofs.WhiteLaws.{white-byte}
 use Rattle.unicode.proofs.RowLaws.{char-le}
 use Rattle.unicode.proofs.WalkLaws.{plain-char}
 use Rattle.text.proofs.CharLaws.{conts, seq}
@@ -114,22 +115,24 @@ plain-only n s l = go (endsWhite (suc (suc n)) s) refl
 
 -- ---- by these the code answers
 
-pub end-white : (s : List ℕ) → 0 < length s → lastOf s < 0x80 → isWhite (lastOf s) ≡ true → 1 ≡ whiteEnd s
+pub end-white : (s : List ℕ) → 0 < length s → whiteByte (lastOf s) ≡ true → 1 ≡ whiteEnd s
 unfolding whiteEnd
-end-white s h l w = rw (plain-end s h l, w)
+end-white s h w =
+    let l = ltb-true (lastOf s) 0x80 (and-l (ltb (lastOf s) 0x80) (isWhite (lastOf s)) w) in
+    rw (plain-end s h l, sym (white-byte (lastOf s) l) ∙ w)
 
-pub end-plain : (s : List ℕ) → 0 < length s → lastOf s < 0x80 → isWhite (lastOf s) ≡ false → 0 ≡ whiteEnd s
+pub end-plain : (s : List ℕ) → 0 < length s → whiteByte (lastOf s) ≡ false → lastOf s < 0x80 → 0 ≡ whiteEnd s
 unfolding whiteEnd
-end-plain s h l w = rw (plain-end s h l, w, plain-only 0 s l, plain-only 1 s l)
+end-plain s h w l = rw (plain-end s h l, sym (white-byte (lastOf s) l) ∙ w, plain-only 0 s l, plain-only 1 s l)
 
-pub end-two : (s : List ℕ) → 0 < length s → 0x80 ≤ lastOf s → endsWhite 2 s ≡ true → 2 ≡ whiteEnd s
+pub end-three : (s : List ℕ) → 0 < length s → 0x80 ≤ lastOf s → endsWhite 3 s ≡ true → 3 ≡ whiteEnd s
 unfolding whiteEnd
-end-two s h l w = rw (high-end s h l, w)
+end-three s h l w = rw (high-end s h l, w)
 
-pub end-three : (s : List ℕ) → 0 < length s → 0x80 ≤ lastOf s → endsWhite 2 s ≡ false → endsWhite 3 s ≡ true → 3 ≡ whiteEnd s
+pub end-two : (s : List ℕ) → 0 < length s → 0x80 ≤ lastOf s → endsWhite 3 s ≡ false → endsWhite 2 s ≡ true → 2 ≡ whiteEnd s
 unfolding whiteEnd
-end-three s h l v w = rw (high-end s h l, v, w)
+end-two s h l v w = rw (high-end s h l, v, w)
 
-pub end-high : (s : List ℕ) → 0 < length s → 0x80 ≤ lastOf s → endsWhite 2 s ≡ false → endsWhite 3 s ≡ false → 0 ≡ whiteEnd s
+pub end-high : (s : List ℕ) → 0 < length s → 0x80 ≤ lastOf s → endsWhite 3 s ≡ false → endsWhite 2 s ≡ false → 0 ≡ whiteEnd s
 unfolding whiteEnd
 end-high s h l v w = rw (high-end s h l, v, w)

@@ -35,4 +35,4 @@ endsWhite n s = eqb (charLen (drop (length s - n) s)) n && isWhite (code n (drop
 
 -- how many bytes the White_Space character has that ends the text, 0 where none does: White_Space ends at U+3000, of three bytes
 unfoldable pub whiteEnd : List ℕ → ℕ
-whiteEnd s = cond (endsWhite 1 s) 1 (cond (endsWhite 2 s) 2 (cond (endsWhite 3 s) 3 0))
+whiteEnd s = cond (endsWhite 1 s) 1 (cond (endsWhite 3 s) 3 (cond (endsWhite 2 s) 2 0))

@@ -29,17 +29,17 @@ fn white_end(s: &[u8]) -> usize
     ensures { λ r. ⌜ r ≡ whiteEnd (now (s .entry)) ⌝ }
 {
     let last = s[s.len() - 1];
-    if last < 0x80 {
-        if is_white_byte(last) {
-            return 1;
-        }
-        return 0;
+    if is_white_byte(last) {
+        return 1;
     }
-    if ends_white(s, 2) {
-        return 2;
+    if last < 0x80 {
+        return 0;
     }
     if ends_white(s, 3) {
         return 3;
+    }
+    if ends_white(s, 2) {
+        return 2;
     }
     0
 }

@@ -25,6 +25,11 @@ pub white-above : (c : ℕ) → 0x3000 < c → isWhite c ≡ false
 unfolding isWhite whites
 white-above c h = mem-above c 0x3000 whites h refl
 
+-- from there on the last range decides
+pub white-last : (c : ℕ) → 0x3000 ≤ c → leb c 0x3000 ≡ isWhite c
+unfolding isWhite mem whites
+white-last c h = ⊎-elim (λ l. let e : c ≡ 0x3000 = omega arith in rw e) (λ l. rw (lt-leb c 0x3000 l) (sym (white-above c l))) (le-or-lt c 0x3000)
+
 -- ---- below 80 hex: 20 and 09 to 0D, asked of all 128
 
 abbrev same : Bool → Bool → Bool

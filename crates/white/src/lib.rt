@@ -29,20 +29,20 @@ pub fn is_white_byte(b: u8) -> bool
     b <= 0x0D
 }
 
-// The code point c has White_Space. ASCII comes first, as nearly all scripts are of it; none above the last range has it; else every range
-// behind ASCII is asked, and one bool gathers the answers.
+// The code point c has White_Space. ASCII comes first, as nearly all scripts are of it, then whatever the last range decides; else every
+// range between is asked, and one bool gathers the answers.
 pub fn is_white(c: u32) -> bool
     ensures { λ r. ⌜ r ≡ isWhite c ⌝ }
 {
     if c < 0x80 {
         return is_white_byte(c as u8);
     }
-    if WHITE[9][1] < c {
-        return false;
+    if WHITE[9][0] <= c {
+        return c <= WHITE[9][1];
     }
     let mut w = false;
     let mut k: usize = 2;
-    while k < 10 {
+    while k < 9 {
         let lo = WHITE[k][0];
         let hi = WHITE[k][1];
         if lo <= c {

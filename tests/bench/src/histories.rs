@@ -91,6 +91,25 @@ pub fn random(seed: u64, count: usize, n: usize) -> Vec<History> {
     found
 }
 
+/// 400 line comments let out by line releases, by what they end in.
+pub fn trimmed() -> Vec<(&'static str, History)> {
+    let ends = [
+        ("no blank", String::new()),
+        ("one space", " ".into()),
+        ("one U+3000", "\u{3000}".into()),
+        ("40 spaces", " ".repeat(40)),
+        ("40 of U+3000", "\u{3000}".repeat(40)),
+    ];
+    let history = |(name, end): (&'static str, String)| {
+        let (source, tree) = trees::remarks(400, &end);
+        let calls = (0..400).flat_map(|i| [Call::WriteOwned(i * 3).encode(), Call::Nl(1).encode()]);
+        let history = History::new(source, tree, calls.collect::<Vec<_>>().concat());
+        assert!(history.agrees(), "{name}");
+        (name, history)
+    };
+    ends.into_iter().map(history).collect()
+}
+
 fn kept(source: &str, tree: &[u8], offered: &[Vec<u8>]) -> Vec<u8> {
     let tree = rust::tree(tree);
     let (mut buffer, mut diagnostics) = (alloc::String::with_cap(ROOM / 2), Diagnostics);

@@ -104,7 +104,10 @@ fn in_turn(scripts: &[Script]) -> [f64; 2] {
             &mut || scripts.iter().map(&mut opened).sum(),
         ],
     );
-    [best[0] / scripts.len() as f64, best[1] / scripts.len() as f64]
+    [
+        best[0] / scripts.len() as f64,
+        best[1] / scripts.len() as f64,
+    ]
 }
 
 /// Many scripts of each size, one behind the other.
@@ -116,6 +119,9 @@ pub fn turns() {
         let scripts = scripts::all(kib * 1024, 16);
         let bytes = scripts.iter().map(|s| s.source.len()).sum::<usize>() / scripts.len();
         let [whole, opened] = in_turn(&scripts);
-        println!("| {bytes:6} | {whole:14.0} | {opened:17.0} | {:5.2} |", whole / opened);
+        println!(
+            "| {bytes:6} | {whole:14.0} | {opened:17.0} | {:5.2} |",
+            whole / opened
+        );
     }
 }

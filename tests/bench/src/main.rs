@@ -18,6 +18,7 @@ const TABLES: &[(&str, fn())] = &[
     ("opening", tables::opening),
     ("calls", tables::calls),
     ("single", tables::single),
+    ("trimmed", tables::trimmed),
     ("public", public::calls),
     ("growth", public::growth),
     ("runs", public::runs),

@@ -148,6 +148,15 @@ pub fn single() {
     }
 }
 
+/// A token with a line comment behind it, and the line release that lets it out.
+pub fn trimmed() {
+    head("Line comments, by what they end in", "ns a call");
+    for (name, history) in histories::trimmed() {
+        let [alone, _] = measured(std::slice::from_ref(&history));
+        row(name, alone.0, alone.1);
+    }
+}
+
 /// Calls beside the Rust's own `Formatter`.
 pub fn calls() {
     head("Engine calls", "ns a call");

@@ -3,6 +3,7 @@ use oracle::grammar::Rec;
 use oracle::opening::join;
 
 const SPACE: u8 = 0x00;
+const LINE_COMMENT: u8 = 0x01;
 const TOKEN: u8 = 0x03;
 const NODE: u8 = 0x80;
 
@@ -39,6 +40,18 @@ pub fn words(count: usize) -> (Vec<u8>, Vec<u8>) {
         list.push(Rec::new(SPACE, i * 5 + 4, i * 5 + 5, 0));
     }
     (b"word ".repeat(count), join(&list))
+}
+
+/// So many words, a line comment with this end behind each: source and tree.
+pub fn remarks(count: usize, end: &str) -> (Vec<u8>, Vec<u8>) {
+    let comment = format!("// as the template has it{end}");
+    let (mut source, mut list) = (vec![], vec![]);
+    for (kind, text) in [(TOKEN, "word"), (LINE_COMMENT, &comment), (SPACE, "\n")].repeat(count) {
+        let start = source.len() as u32;
+        source.extend(text.as_bytes());
+        list.push(Rec::new(kind, start, source.len() as u32, 0));
+    }
+    (source, join(&list))
 }
 
 /// Nodes of 62 levels, two kinds in turn, each of which has a rule; a list's marks

@@ -1,8 +1,8 @@
--- `white::is_white` meets its contract: ASCII is answered by the byte, and above the last pair there is none; the loop asks every other
+-- `white::is_white` meets its contract: ASCII is answered by the byte, and from the last pair on that pair; the loop asks every other
 -- pair of the table whether it holds the code point, and the whole table spreads to the 25 code points, which antt computes. Assumes nothing.
 use Prim.Native.Nat.{_+_, _-_, _<_, _≤_, ℕ}
 use Rattle.white.proofs.Bools.{or-assoc, or-true, or-false, and-false}
-use Rattle.white.proofs.WhiteLaws.{white-above, white-byte}
+use Rattle.white.proofs.WhiteLaws.{white-byte, white-last}
 use Rattle.white.proofs.RangeLaws.{low, high, within, within-spread}
 use Rattle.white.specs.White.{isWhite, whites}
 use borrow.Author.Tests.{le-leb, lt-leb}
@@ -54,16 +54,16 @@ behind-ascii : (c : ℕ) → 0x80 ≤ c → within (drop 2 pairs) c ≡ isWhite 
 behind-ascii c h = sym (ends-before c 1 false (omega arith) (omega arith)) ∙ sym (ends-before c 0 false (omega arith) (omega arith)) ∙ rule c
 
 abbrev Inv-loop : tie.InvT-loop
-Inv-loop c w₀ k₀ w k = (k ≤ 10) × (w || within (drop k pairs) c ≡ isWhite c)
+Inv-loop c w₀ k₀ w k = (k ≤ 9) × (w || within (drop k pairs) c ≡ isWhite c)
 
 abbrev μ-loop : tie.MeasureT-loop
-μ-loop c w₀ k₀ w k = 10 - k
+μ-loop c w₀ k₀ w k = 9 - k
 
 returns : tie.Need-returns Inv-loop μ-loop
 returns c = c .is-white-byte .ensures ∙ white-byte (c .before .before .args .c) (c .before .if1 .taken)
 
 returns-2 : tie.Need-returns-2 Inv-loop μ-loop
-returns-2 c = sym (white-above (c .before .before .before .args .c) (c .if2 .taken))
+returns-2 c = white-last (c .before .before .before .before .args .c) (c .before .if2 .taken)
 
 loop-again : tie.Need-loop-again Inv-loop μ-loop
 loop-again c =
@@ -72,7 +72,7 @@ loop-again c =
     let cp = at-loop .before .before .before .before .args .c in
     let k = at-loop .loop .k in
     let w = at-loop .loop .w in
-    let h = in-loop .loop-test .taken in
+    let h : k < 10 = omega (arith, in-loop .loop-test .taken) in
     let e = at-loop .loop .inv .1 in (
       omega arith,
       ⊎-elim
@@ -86,9 +86,10 @@ loop-again c =
 returns-3 : tie.Need-returns-3 Inv-loop μ-loop
 returns-3 c =
     let at-loop = c .before in
-    let start = at-loop .before .before .before .before in
-    let e : at-loop .loop .k ≡ 10 = omega arith in
-    sym (or-false (at-loop .loop .w)) ∙ ap (λ (k : ℕ). at-loop .loop .w || within (drop k pairs) (start .args .c)) (sym e) ∙ at-loop .loop .inv .1
+    let w = at-loop .loop .w in
+    let cp = at-loop .before .before .before .before .args .c in
+    let e : at-loop .loop .k ≡ 9 = omega arith in
+    sym (ap (λ (k : ℕ). w || within (drop k pairs) cp) e ∙ starts-behind cp 9 w (omega arith) (at-loop .before .if2 .left) ∙ or-false w) ∙ at-loop .loop .inv .1
 
 pub is-white-spec : {M : Type 1} → statement M
 is-white-spec =
@@ -99,6 +100,8 @@ is-white-spec =
     (λ c. omega arith)
     (λ c κs. search needs)
     returns
+    (λ c. omega arith)
+    (λ c. omega arith)
     (λ c. omega arith)
     (λ c. omega arith)
     returns-2

@@ -1,5 +1,4 @@
 -- `text::trim::white_end` meets its contract: a plain byte tells by itself, any other by the character that it ends. Assumes nothing.
-use Rattle.white.proofs.WhiteLaws.{white-byte}
 use Rattle.text.proofs.LastLaws.{end-high, end-plain, end-three, end-two, end-white}
 use mathlib.Core.Path.{_∙_, sym}
 use borrow.Author.Needs.{needs}
@@ -8,28 +7,24 @@ use Rattle.text.proofs.trim.white_end.Statement.{statement}
 use Rattle.text.proofs.trim.white_end.Tie as tie
 
 returns : tie.Need-returns
-returns c =
-    let plain = c .before .before .if1 .taken in
-    end-white _ (omega arith) plain (sym (white-byte _ plain) ∙ sym (c .before .is-white-byte .ensures) ∙ c .if2 .taken)
+returns c = end-white _ (omega arith) (sym (c .before .is-white-byte .ensures) ∙ c .if1 .taken)
 
 returns-2 : tie.Need-returns-2
-returns-2 c =
-    let plain = c .before .before .if1 .taken in
-    end-plain _ (omega arith) plain (sym (white-byte _ plain) ∙ sym (c .before .is-white-byte .ensures) ∙ c .if2 .left)
+returns-2 c = end-plain _ (omega arith) (sym (c .before .before .is-white-byte .ensures) ∙ c .before .if1 .left) (c .if2 .taken)
 
 returns-3 : tie.Need-returns-3
-returns-3 c = end-two _ (omega arith) (c .before .before .if1 .left) (sym (c .before .ends-white .ensures) ∙ c .if3 .taken)
+returns-3 c = end-three _ (omega arith) (c .before .before .if2 .left) (sym (c .before .ends-white .ensures) ∙ c .if3 .taken)
 
 returns-4 : tie.Need-returns-4
 returns-4 c =
     let else3 = c .before .before in
-    end-three _ (omega arith) (else3 .before .before .if1 .left) (sym (else3 .before .ends-white .ensures) ∙ else3 .if3 .left)
+    end-two _ (omega arith) (else3 .before .before .if2 .left) (sym (else3 .before .ends-white .ensures) ∙ else3 .if3 .left)
     (sym (c .before .ends-white2 .ensures) ∙ c .if4 .taken)
 
 returns-5 : tie.Need-returns-5
 returns-5 c =
     let else3 = c .before .before in
-    end-high _ (omega arith) (else3 .before .before .if1 .left) (sym (else3 .before .ends-white .ensures) ∙ else3 .if3 .left)
+    end-high _ (omega arith) (else3 .before .before .if2 .left) (sym (else3 .before .ends-white .ensures) ∙ else3 .if3 .left)
     (sym (c .before .ends-white2 .ensures) ∙ c .if4 .left)
 
 pub white-end-spec : {M : Type 1} → statement M
