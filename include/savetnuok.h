@@ -50,9 +50,9 @@ extern "C" {
 /* ---- version: of this header and the library beside it ---- */
 
 #define SAVETNUOK_VERSION_MAJOR 0 /* raised when a program written for the former one may have to change */
-#define SAVETNUOK_VERSION_MINOR 1 /* raised when something is added */
+#define SAVETNUOK_VERSION_MINOR 2 /* raised when something is added */
 #define SAVETNUOK_VERSION_PATCH 0
-#define SAVETNUOK_VERSION "0.1.0"
+#define SAVETNUOK_VERSION "0.2.0"
 
 /* ---- bounds ---- */
 
@@ -120,23 +120,44 @@ enum {
     /* A record of the tree stands at depth 65. Place: the record. */
     SAVETNUOK_TREE_DEEP = 7,
 
-    /* Of runs and layouts only: a rule met a record of a kind that may not stand there, or none where it needs one, or
+    /* Of runs and layouts: a rule met a record of a kind that may not stand there, or none where it needs one, or
        a record was left over. Place: the record met or left over; where there is none, the node whose records ended.
-       Of a layout also: record 0 is not a block body that holds all other records. Place: 0. */
+       Of a layout also: record 0 is not a block body that holds all other records. Place: 0.
+       Of savetnuok_why: an object has no name. Place: the record that stands first in it, or the object. */
     SAVETNUOK_WRONG_KIND = 8,
 
-    /* Of runs and layouts only: the kind of a node has no rule. Place: the node. */
+    /* Of runs and layouts: the kind of a node has no rule. Of savetnuok_why: the node is no list. Place: the node. */
     SAVETNUOK_NO_RULE = 9,
 
     /* The engine is finished. Place: the output length. */
     SAVETNUOK_FINISHED = 10,
 
-    /* The tree has no such node. Place: the node number in the call record, or of the run. */
+    /* The tree has no such node. Place: the node number in the call record, or of the run or question. */
     SAVETNUOK_NO_NODE = 11,
 
     /* The call record is empty, of unknown kind, cut, with bytes behind it, or with a body that is not listed.
        Place: 0, its first byte. */
     SAVETNUOK_BAD_CALL = 12
+};
+
+/*
+ * ---- what savetnuok_why answers besides refusals: 0, or number * 2^32 + place ----
+ *
+ * No refusal has these numbers, and none will: refusals stay below 101.
+ */
+enum {
+    /* There is no reason: the list is laid out compact, on one line. */
+    SAVETNUOK_WHY_COMPACT = 0,
+
+    /* The node has more than 80 characters outside white space. Place: the byte of the source at which the 81st
+       begins. */
+    SAVETNUOK_WHY_WIDE = 101,
+
+    /* A line comment stands directly in the node; of an object, behind its name. Place: the comment's record. */
+    SAVETNUOK_WHY_COMMENT = 102,
+
+    /* The node has six entries or more. Place: the record of the sixth. */
+    SAVETNUOK_WHY_SIXTH = 103
 };
 
 static inline uint32_t savetnuok_number(uint64_t answer) { return (uint32_t)(answer >> 32); }
@@ -484,6 +505,29 @@ uint64_t savetnuok_run(const uint8_t *source, size_t source_len, const uint8_t *
  */
 uint64_t savetnuok_layout(const uint8_t *source, size_t source_len, const uint8_t *tree, size_t tree_len,
                           uint8_t *state, size_t state_len, uint8_t *out, size_t out_len);
+
+/*
+ * Why a list is laid out over several lines, an entry to a line. Lists are nodes of three kinds: the arguments of a call
+ * (SAVETNUOK_KIND_EXPR_CALL), an array (.._EXPR_ARRAY), an object (.._EXPR_OBJECT). A tuple never is, and other nodes
+ * have rules of their own. No engine is needed, and nothing that is lent is written.
+ *
+ *     uint64_t answer = savetnuok_why(source, source_len, tree, tree_len, node);
+ *     if (savetnuok_number(answer) == SAVETNUOK_WHY_WIDE)
+ *         printf("too wide: byte %u is one too many\n", savetnuok_place(answer));
+ *
+ * The answer is 0 exactly if a run or layout makes the calls of a compact list for the node: both go by one definition.
+ * Else it is one of SAVETNUOK_WHY_.. with its place, or a refusal. Where several reasons hold, width comes first, then
+ * whichever of a line comment and a sixth entry stands first in the node. A block comment is none, nor is a line comment
+ * that stands deeper, inside an entry, or in front of an object's name. White space does not count for the width;
+ * comments do.
+ *
+ * Refusals, in the order in which they are asked:
+ *     1, 2, 3, 7   as at opening
+ *     11           the tree has no such node
+ *     9            the node is none of the three kinds
+ *     8            the node is an object that does not begin with its name, # or a path, behind white space and comments
+ */
+uint64_t savetnuok_why(const uint8_t *source, size_t source_len, const uint8_t *tree, size_t tree_len, uint32_t node);
 
 #ifdef __cplusplus
 }

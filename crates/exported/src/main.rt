@@ -75,6 +75,10 @@ fn main() {
     if replay_file(b"sessions.bin", &mut counts) {
         tally::report(&counts);
     }
+    let mut reasons = tally::none();
+    if replay_file(b"reasons.bin", &mut reasons) {
+        tally::report_reasons(&reasons);
+    }
     let mut planted = tally::none();
     if replay_file(b"planted.bin", &mut planted) {
         io::write_all(1, b"with wrong records planted: ");

@@ -6,6 +6,7 @@ use crate::tally::add_if;
 use savetnuok::savetnuok_call;
 use savetnuok::savetnuok_open;
 use savetnuok::savetnuok_run;
+use savetnuok::savetnuok_why;
 ghost use Prim.Native.Nat.{_≤_};
 
 // Where the file goes on, and how many bytes of each are lent.
@@ -45,7 +46,7 @@ fn same(have: &[u8], want: &[u8]) -> bool {
 
 // ---- what is lent
 
-// The kinds of step: 0 to 3 lend a source, a tree, a state, a buffer; 4 to 6 open, call, run.
+// The kinds of step: 0 to 3 lend a source, a tree, a state, a buffer; 4 to 6 open, call, run; 8 asks why.
 fn lend(
     file: &[u8],
     l: Lent,
@@ -88,6 +89,10 @@ fn lend(
 
 // ---- a function called
 
+fn node_in(bytes: &[u8]) -> u32 {
+    (packed::word(bytes, 0) % 0x1_0000_0000) as u32
+}
+
 fn answered(
     kind: usize,
     source: &[u8],
@@ -99,10 +104,8 @@ fn answered(
     match kind {
         4 => savetnuok_open(source, tree, state),
         5 => savetnuok_call(source, tree, state, out, bytes),
-        _ => {
-            let node = (packed::word(bytes, 0) % 0x1_0000_0000) as u32;
-            savetnuok_run(source, tree, state, out, node)
-        }
+        6 => savetnuok_run(source, tree, state, out, node_in(bytes)),
+        _ => savetnuok_why(source, tree, node_in(bytes)),
     }
 }
 
@@ -126,7 +129,7 @@ fn held(
     want_out: &[u8],
     counts: &mut Counts,
 ) {
-    add(counts, (recorded / 0x1_0000_0000) as usize, 1);
+    add(counts, tally::slot(recorded / 0x1_0000_0000), 1);
     add(counts, tally::STATE_BYTES, state.len());
     add(counts, tally::OUT_BYTES, out.len());
     add_if(counts, tally::ANSWERS_DIFFER, answer != recorded);
@@ -139,7 +142,8 @@ fn counted(kind: usize) -> usize {
     match kind {
         4 => tally::OPENED,
         5 => tally::CALLED,
-        _ => tally::RAN,
+        6 => tally::RAN,
+        _ => tally::ASKED,
     }
 }
 

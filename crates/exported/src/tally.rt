@@ -1,7 +1,7 @@
 // What was made, what was answered, what was compared, and what differs.
 
 // By the number of the answer from 0 on; then as the constants say.
-pub type Counts = [u64; 24];
+pub type Counts = [u64; 32];
 
 pub const OPENED: usize = 13;
 
@@ -19,13 +19,32 @@ pub const STATES_DIFFER: usize = 19;
 
 pub const BUFFERS_DIFFER: usize = 20;
 
+pub const ASKED: usize = 21;
+
+// The three reasons, which `savetnuok_why` answers as 101 to 103.
+const WIDE: usize = 22;
+
+const COMMENT: usize = 23;
+
+const SIXTH: usize = 24;
+
+// Where an answer is counted by its number: others than the reasons at the number itself.
+pub fn slot(number: u64) -> usize {
+    match number {
+        101 => WIDE,
+        102 => COMMENT,
+        103 => SIXTH,
+        _ => number as usize,
+    }
+}
+
 pub fn none() -> Counts {
-    [0u64; 24]
+    [0u64; 32]
 }
 
 // A count grows, up to a bound that no file reaches.
 pub fn add(counts: &mut Counts, i: usize, by: usize) {
-    if i < 24 {
+    if i < 32 {
         let n = counts[i];
         if n < 0x1_0000_0000 {
             if by < 0x1_0000_0000 {
@@ -42,7 +61,7 @@ pub fn add_if(counts: &mut Counts, i: usize, yes: bool) {
 }
 
 fn of(counts: &Counts, i: usize) -> u64 {
-    if i < 24 { counts[i] } else { 0 }
+    if i < 32 { counts[i] } else { 0 }
 }
 
 fn say(counts: &Counts, i: usize, what: &[u8]) {
@@ -75,5 +94,16 @@ pub fn report(counts: &Counts) {
     report_refused(counts);
     say(counts, STATE_BYTES, b" bytes of state and ");
     say(counts, OUT_BYTES, b" bytes of buffer compared: ");
+    report_differ(counts);
+}
+
+// Of questions why: what was told.
+pub fn report_reasons(counts: &Counts) {
+    say(counts, ASKED, b" questions why: ");
+    say(counts, 0, b" compact, ");
+    say(counts, WIDE, b" too wide, ");
+    say(counts, COMMENT, b" with a line comment, ");
+    say(counts, SIXTH, b" with a sixth entry");
+    report_refused(counts);
     report_differ(counts);
 }

@@ -4,35 +4,11 @@
 //
 // writes the laid-out text to standard output, byte for byte as the library gives it; or, to standard error, one line with the refusal's
 // number, its meaning and its place.
-mod place;
-mod refusal;
-
 use entry::state::fresh;
 use format::runs::lay_out;
 use meaning::answer::Answer;
-
-// A file's bytes in a buffer: how many, or none found.
-struct File {
-    found: bool,
-    len: usize,
-}
-
-// The file that an argument names, as far as the buffer goes.
-fn read(arg: usize, to: &mut [u8]) -> File {
-    let mut path = io::buffer();
-    let n = os::arg(arg, &mut path);
-    let fd = os::open_read(&path[..n]);
-    if fd < 0 {
-        os::fail(&path[..n]);
-        return File {
-            found: false,
-            len: 0,
-        };
-    }
-    let len = io::read_full(fd, to);
-    libc::close(fd);
-    File { found: true, len }
-}
+use telling::files::read;
+use telling::refusal;
 
 // The text of a script and its tree; else why there is none.
 fn lay(source: &[u8], tree: &[u8]) {

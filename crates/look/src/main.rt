@@ -2,14 +2,9 @@
 //
 //     look SCRIPT TREE
 use opening::open::Opening;
+use telling::files::read;
 use text::span::BytePos;
 use tree::record::RecordNo;
-
-// A file's bytes in a buffer: how many, or none found.
-struct File {
-    found: bool,
-    len: usize,
-}
 
 fn say(text: &[u8]) {
     io::write_all(1, text);
@@ -17,23 +12,6 @@ fn say(text: &[u8]) {
 
 fn number(n: u64) {
     io::print_decimal(1, n);
-}
-
-// The file that an argument names, as far as the buffer goes.
-fn read(arg: usize, to: &mut [u8]) -> File {
-    let mut path = io::buffer();
-    let n = os::arg(arg, &mut path);
-    let fd = os::open_read(&path[..n]);
-    if fd < 0 {
-        os::fail(&path[..n]);
-        return File {
-            found: false,
-            len: 0,
-        };
-    }
-    let len = io::read_full(fd, to);
-    libc::close(fd);
-    File { found: true, len }
 }
 
 fn front(s: &[u8], n: usize) -> &[u8] {

@@ -9,31 +9,9 @@ mod lending;
 mod lines;
 
 use meaning::answer::number;
+use telling::files::read;
 use tree::table::decode;
 use tree::table::first;
-
-// A file's bytes in a buffer: how many, or none found.
-struct File {
-    found: bool,
-    len: usize,
-}
-
-// The file that an argument names, as far as the buffer goes.
-fn read(arg: usize, to: &mut [u8]) -> File {
-    let mut path = io::buffer();
-    let n = os::arg(arg, &mut path);
-    let fd = os::open_read(&path[..n]);
-    if fd < 0 {
-        os::fail(&path[..n]);
-        return File {
-            found: false,
-            len: 0,
-        };
-    }
-    let len = io::read_full(fd, to);
-    libc::close(fd);
-    File { found: true, len }
-}
 
 // The outline and the layout of an opened script; else why it is refused.
 fn show(source: &[u8], tree: &[u8], file: &[u8]) {

@@ -5,3 +5,4 @@ mod RanLaws
 mod ExportLaws
 pub mod Sessions
 pub mod Unique
+pub mod WhyLaws

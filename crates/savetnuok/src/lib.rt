@@ -16,6 +16,8 @@ use lent::ring::tidy;
 use meaning::answer::Answer;
 use meaning::answer::Refusal;
 use packing::numbers::packed;
+use reasons::numbers::in_one;
+use reasons::why::why_in;
 use tree::record::RecordNo;
 use wire::state_bytes::SIZE;
 use wire::state_bytes::queue_in;
@@ -28,6 +30,7 @@ ghost use mathlib.Core.Path.{_≡_};
 ghost use mathlib.Core.Bool.{false};
 ghost use Rattle.lent.specs.Run.{isRefused};
 ghost use Rattle.savetnuok.specs.Exported.{thenShape, Opened, CalledOn, LaidAs, LaidOn, WholeOn};
+ghost use Rattle.savetnuok.specs.Why.{ToldOn};
 
 // What is answered where the shape is wrong: 1, 2, 3, 7, else 5 at place 8,192.
 fn misshapen(a: Answer) -> Answer
@@ -137,4 +140,12 @@ pub extern "C" fn savetnuok_layout(
     ensures { λ r. ⌜ WholeOn source tree state out r ⌝ }
 {
     laid(source, tree, state, out, Wanted::All)
+}
+
+// Why a list went over several lines: the reason's number and place, 0 for a compact list, or a refusal. Nothing that is lent is written.
+#[no_mangle]
+pub extern "C" fn savetnuok_why(source: &[u8], tree: &[u8], node: u32) -> u64
+    ensures { λ r. ⌜ ToldOn source tree node r ⌝ }
+{
+    in_one(why_in(source, tree, RecordNo(node)))
 }

@@ -29,6 +29,8 @@ pub type Run = unsafe extern "C" fn(
 pub type Layout =
     unsafe extern "C" fn(*const u8, usize, *const u8, usize, *mut u8, usize, *mut u8, usize) -> u64;
 
+pub type Why = unsafe extern "C" fn(*const u8, usize, *const u8, usize, u32) -> u64;
+
 /// What is tested: the exported functions, or a stand-in with a fault (faults.rs).
 #[derive(Clone, Copy)]
 pub struct Library {
@@ -81,8 +83,18 @@ mod savetnuok {
             out: *mut u8,
             out_len: usize,
         ) -> u64;
+        pub fn savetnuok_why(
+            source: *const u8,
+            source_len: usize,
+            tree: *const u8,
+            tree_len: usize,
+            node: u32,
+        ) -> u64;
     }
 }
+
+/// It is asked of source and tree alone, so it stands in no history (why.rs).
+pub const WHY: Why = savetnuok::savetnuok_why;
 
 pub const SAVETNUOK: Library = Library {
     open: savetnuok::savetnuok_open,

@@ -13,6 +13,7 @@ mod large;
 mod layouts;
 mod lent;
 mod noise;
+mod reasons;
 mod record;
 mod recorder;
 mod reference;
@@ -20,6 +21,7 @@ mod rules;
 mod sample;
 mod session;
 mod tally;
+mod why;
 
 use std::ops::Range;
 use std::path::PathBuf;
@@ -37,6 +39,7 @@ use tally::Tally;
 const HELP: &str =
     "outside [--calls N] [--seed N] [--save FOLDER] [--only GROUP:NUMBER[..NUMBER]] [--trace]
 outside faults [--calls N] [--seed N]     each fault of a stand-in must be found
+outside why COUNT [--seed N]              why so many lists go over several lines
 outside sample FOLDER COUNT [--seed N]    histories with their answers, as files
 outside record FOLDER                     the sessions that the gate's program `exported` replays";
 
@@ -330,6 +333,7 @@ fn main() {
     let good = match args[..] {
         [] => compare(&options),
         ["faults"] => find_faults(&options),
+        ["why", count] => why::compare(number(count), options.seed),
         ["sample", folder, count] => {
             sample::write(folder.as_ref(), options.seed, number(count));
             true

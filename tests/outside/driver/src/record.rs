@@ -20,6 +20,7 @@ use crate::reference::Script;
 use crate::rules::records_of;
 use crate::session::{Desk, Differs, Session};
 use crate::tally::Tally;
+use crate::why;
 
 type Made<'a> = &'a dyn Fn(&mut Session) -> Result<(), Differs>;
 
@@ -122,6 +123,26 @@ pub fn write(folder: &Path) {
         planted.add("planted", number as u64, 10_000, &|s| plant(s, wrong));
     }
     save(folder, "planted.bin", &planted);
+    save_reasons(folder);
+}
+
+/// The questions to `savetnuok_why` stand in a file of their own.
+fn save_reasons(folder: &Path) {
+    let recorder = why::recorded();
+    assert!(!recorder.too_large, "the program has no room for it");
+    let counts: Vec<String> = recorder
+        .answers
+        .iter()
+        .map(|((_, number), n)| format!("{number}: {n}"))
+        .collect();
+    let bytes = [&(recorder.steps as u32).to_le_bytes()[..], &recorder.bytes].concat();
+    println!(
+        "reasons.bin: {} steps, {} bytes; answers {}",
+        recorder.steps,
+        bytes.len(),
+        counts.join(", ")
+    );
+    fs::write(folder.join("reasons.bin"), bytes).expect("a file can be written");
 }
 
 fn save(folder: &Path, name: &str, file: &File) {

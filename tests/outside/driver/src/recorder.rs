@@ -13,6 +13,7 @@ pub const OPEN: usize = 4;
 pub const CALL: usize = 5;
 pub const RUN: usize = 6;
 pub const LAYOUT: usize = 7;
+pub const WHY: usize = 8;
 
 /// What the program has room for.
 const ROOM: [usize; 4] = [70_000, 90_000, 8_192, 8_192];

@@ -45,6 +45,11 @@ impl Script {
         ))
     }
 
+    /// What opening refuses it by.
+    pub fn refusal(&self) -> Option<Refusal> {
+        self.opened.as_ref().err().copied()
+    }
+
     pub fn records(&self) -> &[Rec] {
         self.opened.as_ref().map_or(&[], |t| &t.records)
     }

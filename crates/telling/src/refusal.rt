@@ -47,11 +47,23 @@ fn say_place(source: &[u8], tree: &[u8], r: Refusal) {
     }
 }
 
-pub fn say(source: &[u8], tree: &[u8], r: Refusal) {
+// Its number.
+fn say_number(r: Refusal) -> u32 {
     let n = number(Answer::Refused(r));
     words(b"refusal ");
     io::print_decimal(2, n as u64);
     words(b", ");
-    say_meaning(n);
+    n
+}
+
+pub fn say(source: &[u8], tree: &[u8], r: Refusal) {
+    say_meaning(say_number(r));
+    say_place(source, tree, r);
+}
+
+// With a meaning that is closer to what was asked.
+pub fn say_as(source: &[u8], tree: &[u8], r: Refusal, meaning: &[u8]) {
+    say_number(r);
+    words(meaning);
     say_place(source, tree, r);
 }

@@ -15,7 +15,7 @@ fn number(n: u64) {
 }
 
 // One more, as far as any file goes.
-fn more(n: u64) -> u64 {
+pub fn more(n: u64) -> u64 {
     if n < 0xFFFF_FFFF { n + 1 } else { n }
 }
 
@@ -30,8 +30,13 @@ fn behind(n: u64, b: u8) -> u64 {
     more(n)
 }
 
-// The column of the byte at a place, in characters.
-fn column(source: &[u8], at: usize) -> u64 {
+// The line of the byte at a place.
+pub fn line(source: &[u8], at: usize) -> u64 {
+    more(count_newlines(packed::front(source, at)) as u64)
+}
+
+// Its column, in characters.
+pub fn column(source: &[u8], at: usize) -> u64 {
     let mut c: u64 = 1;
     for i in 0..at {
         c = behind(c, packed::byte(source, i));
@@ -45,7 +50,7 @@ fn line_and_column(source: &[u8], at: usize) {
         return;
     }
     say(b", line ");
-    number(more(count_newlines(packed::front(source, at)) as u64));
+    number(line(source, at));
     say(b", column ");
     number(column(source, at));
 }

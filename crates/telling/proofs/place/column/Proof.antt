@@ -1,8 +1,8 @@
--- `lay::place::column` is safe and ends. Assumes nothing.
+-- `telling::place::column` is safe and ends. Assumes nothing.
 use Prim.Native.Nat.{_-_, _≤_}
 use borrow.Author.Needs.{needs}
-use Rattle.lay.proofs.place.column.Statement.{statement}
-use Rattle.lay.proofs.place.column.Tie as tie
+use Rattle.telling.proofs.place.column.Statement.{statement}
+use Rattle.telling.proofs.place.column.Tie as tie
 
 abbrev Inv-loop : tie.InvT-loop
 Inv-loop source at c₀ i₀ c i = i ≤ at

@@ -1,0 +1,5 @@
+mod WhyLaws
+pub mod Laws
+pub mod TrueLaws
+pub mod PlaceTrue
+mod Cases

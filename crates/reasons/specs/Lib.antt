@@ -1,0 +1,4 @@
+pub mod Why
+pub mod Numbers
+pub mod Rule
+pub mod Cases
