@@ -4,7 +4,7 @@
 #include "savetnuok.h"
 #include "states.h"
 
-static uint64_t refusal(uint32_t number, uint32_t place) { return (uint64_t)number << 32 | place; }
+uint64_t refusal(uint32_t number, uint32_t place) { return (uint64_t)number << 32 | place; }
 
 static int is_flag(const uint8_t *at) { return savetnuok_word(at) <= 1; }
 
@@ -51,7 +51,7 @@ static int record_is_good(struct bytes record) {
     return record.len == 1u + body && (body != 1 || record.at[1] < kinds[record.at[0]].values);
 }
 
-static uint32_t records_of(struct bytes tree) {
+uint32_t records_in(struct bytes tree) {
     uint32_t n = 0;
     for (size_t at = 0; at < tree.len; n++)
         at += tree.at[at] < 0x80 ? 9 : 13;
@@ -88,7 +88,7 @@ uint64_t refusal_before_its_steps(const struct lent *l) {
     if (l->record.at[0] > SAVETNUOK_IGNORE)
         return 0;
     uint32_t node = savetnuok_word(l->record.at + 1);
-    return node < records_of(l->tree) ? 0 : refusal(SAVETNUOK_NO_NODE, node);
+    return node < records_in(l->tree) ? 0 : refusal(SAVETNUOK_NO_NODE, node);
 }
 
 int has_a_rule(uint8_t kind) {
@@ -123,7 +123,7 @@ uint64_t refusal_before_its_rule(const struct lent *l, uint32_t node) {
     uint64_t finished = refusal_by_the_finish(l);
     if (finished != 0)
         return finished;
-    if (node >= records_of(l->tree))
+    if (node >= records_in(l->tree))
         return refusal(SAVETNUOK_NO_NODE, node);
     return has_a_rule(l->tree.at[record_at(l->tree, node)]) ? 0 : refusal(SAVETNUOK_NO_RULE, node);
 }
@@ -136,7 +136,7 @@ uint64_t refusal_before_its_calls(const struct lent *l) {
     if (finished != 0)
         return finished;
     int whole = l->tree.len > 0 && l->tree.at[0] == SAVETNUOK_KIND_BLOCK_BODY &&
-                below(l->tree, 0) == records_of(l->tree) - 1;
+                below(l->tree, 0) == records_in(l->tree) - 1;
     return whole ? 0 : refusal(SAVETNUOK_WRONG_KIND, 0);
 }
 

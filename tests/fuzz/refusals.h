@@ -13,6 +13,12 @@ uint64_t refusal_before_its_rule(const struct lent *l, uint32_t node);
 /* The same of a layout. */
 uint64_t refusal_before_its_calls(const struct lent *l);
 
+/* A refusal's number and place in one, as the library answers. */
+uint64_t refusal(uint32_t number, uint32_t place);
+
+/* How many records a good tree has. */
+uint32_t records_in(struct bytes tree);
+
 int has_a_rule(uint8_t kind);
 
 /* Are the state's length, its flags and the buffer's length such that the state can be read? */

@@ -18,6 +18,7 @@
 #include "runs.h"
 #include "savetnuok.h"
 #include "states.h"
+#include "why.h"
 
 static int is_zero(struct bytes b, size_t from) {
     for (size_t i = from; i < b.len; i++)
@@ -62,6 +63,7 @@ static void answer_fits(const struct lent *l, uint64_t answer, uint32_t node) {
           (unsigned long long)want);
     if (want == 0)
         refusal_of_the_rule_fits(l, answer, node);
+    why_is_true(l, opening, node);
 }
 
 /* ---- demand 3 ---- */

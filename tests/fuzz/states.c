@@ -54,11 +54,28 @@ size_t record_at(struct bytes tree, uint32_t k) {
 
 uint32_t below(struct bytes tree, size_t at) { return tree.at[at] < 0x80 ? 0 : savetnuok_word(tree.at + at + 9); }
 
+/* How many bytes the White_Space character has that ends the bytes; 0 where none does. In a good source no character ends
+   in the bytes of another. */
+static uint32_t white_end(const uint8_t *at, uint32_t len) {
+    static const char *const white[] = {
+        "\x09", "\x0A", "\x0B", "\x0C", "\x0D", "\x20", "\xC2\x85", "\xC2\xA0", "\xE1\x9A\x80",
+        "\xE2\x80\x80", "\xE2\x80\x81", "\xE2\x80\x82", "\xE2\x80\x83", "\xE2\x80\x84", "\xE2\x80\x85", "\xE2\x80\x86",
+        "\xE2\x80\x87", "\xE2\x80\x88", "\xE2\x80\x89", "\xE2\x80\x8A", "\xE2\x80\xA8", "\xE2\x80\xA9", "\xE2\x80\xAF",
+        "\xE2\x81\x9F", "\xE3\x80\x80",
+    };
+    for (size_t i = 0; i < sizeof white / sizeof *white; i++) {
+        uint32_t n = (uint32_t)strlen(white[i]);
+        if (n <= len && memcmp(at + len - n, white[i], n) == 0)
+            return n;
+    }
+    return 0;
+}
+
 struct bytes comment_text(struct bytes source, const uint8_t *c) {
-    uint32_t start = word(c, SAVETNUOK_COMMENT_START), end = word(c, SAVETNUOK_COMMENT_END);
+    uint32_t start = word(c, SAVETNUOK_COMMENT_START), end = word(c, SAVETNUOK_COMMENT_END), n;
     if (word(c, SAVETNUOK_COMMENT_LINE) == 1)
-        while (end > start && strchr(" \t\r", source.at[end - 1]) != NULL && source.at[end - 1] != '\0')
-            end--;
+        while ((n = white_end(source.at + start, end - start)) != 0)
+            end -= n;
     return (struct bytes){source.at + start, end - start};
 }
 

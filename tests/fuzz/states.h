@@ -27,7 +27,7 @@ size_t record_at(struct bytes tree, uint32_t k);
 /* How many records stand below the one that begins there. */
 uint32_t below(struct bytes tree, size_t at);
 
-/* A comment's text as it is written: the end of a line comment is trimmed. */
+/* A comment's text as it is written: a line comment without the White_Space at its end. */
 struct bytes comment_text(struct bytes source, const uint8_t *c);
 
 /* Takes a text, or a comment's, off the head of the written bytes, where it must stand; spaces and newlines aside on
