@@ -4,15 +4,15 @@ use mathlib.Core.Bool.{Bool, true, false, cond, _&&_, false≢true}
 use mathlib.Core.List.{List, [], _∷_}
 use Prim.Native.Nat.{ℕ, zero, suc, _+_, _-_, _≤_, _<_}
 use native.Mathlib.Omega.{arith}
-use lib.Dec.{leb, ltb}
+use lib.Dec.{leb, ltb, eqb}
 use lib.ListN.{length, drop, getD, length-drop, drop-of-length-le}
 use lib.Seq.{drop-cons, getD-drop}
-use borrow.Author.Tests.{lt-leb, leb-true, ltb-true, eq-eqb, ne-eqb}
+use borrow.Author.Tests.{lt-leb, leb-true, ltb-true, eqb-true, eq-eqb, ne-eqb}
 use Rattle.unicode.specs.Utf8.{Row, cont, inRange, table, allIn, lenBy, charLen}
-use Rattle.white.specs.White.{isWhite, whiteByte}
+use Rattle.white.specs.White.{mem, whites, isWhite, whiteByte}
 use Rattle.text.specs.declared.chars.Char.{Char}
 use Rattle.text.specs.Chars.{code, stepOf, charAt}
-use Rattle.text.specs.Trim.{endsWhite, whiteEnd}
+use Rattle.text.specs.Trim.{ends3000, endsWhite, whiteEnd}
 use Rattle.white.proofs.Bools.{and-l, and-r, and-false}
 use Rattle.white.proofs.WhiteLaws.{white-byte}
 use Rattle.unicode.proofs.RowLaws.{char-le}
@@ -112,6 +112,24 @@ plain-only n s l = go (endsWhite (suc (suc n)) s) refl
         let d = length-drop i s in
         let at : i + (length (drop i s) - 1) ≡ length s - 1 = omega (arith, o .0, d) in
         absurd (omega (arith, l, wide-last (drop i s) (o .1) (omega (arith, o .0, d)), getD-drop i s (length (drop i s) - 1) 0 ∙ ap (λ (k : ℕ). getD s k 0) at))
+
+-- U+3000 is White_Space, of three bytes
+three-last : (s : List ℕ) → 3 ≤ length s → drop (length s - 3) s ≡ getD s (length s - 3) 0 ∷ getD s (length s - 2) 0 ∷ lastOf s ∷ []
+three-last s h =
+    let p : suc (length s - 3) ≡ length s - 2 = omega arith in
+    let q : suc (length s - 2) ≡ length s - 1 = omega arith in
+    drop-cons s (length s - 3) 0 (omega arith)
+    ∙ ap (getD s (length s - 3) 0 ∷_) (rw p (drop-cons s (length s - 2) 0 (omega arith) ∙ ap (getD s (length s - 2) 0 ∷_) (rw q (at-last s (omega arith)))))
+
+pub ends-3000 : (s : List ℕ) → ends3000 s ≡ true → endsWhite 3 s ≡ true
+unfolding endsWhite table allIn lenBy charLen code isWhite mem whites
+ends-3000 s e =
+    let f = and-r (leb 3 (length s)) _ e in
+    let g = and-r (eqb (lastOf s) 0x80) _ f in
+    let x = eqb-true (getD s (length s - 3) 0) 0xE3 (and-r (eqb (getD s (length s - 2) 0) 0x80) _ g) in
+    let y = eqb-true (getD s (length s - 2) 0) 0x80 (and-l (eqb (getD s (length s - 2) 0) 0x80) _ g) in
+    let z = eqb-true (lastOf s) 0x80 (and-l (eqb (lastOf s) 0x80) _ f) in
+    rw (three-last s (leb-true 3 (length s) (and-l (leb 3 (length s)) _ e)), x, y, z)
 
 -- ---- by these the code answers
 

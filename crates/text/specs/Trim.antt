@@ -2,8 +2,8 @@
 use Prim.Native.Nat.{ℕ, zero, suc, pred, _-_}
 use mathlib.Core.Bool.{Bool, true, false, cond, _&&_}
 use mathlib.Core.List.{List, [], _∷_}
-use lib.Dec.{ltb, eqb}
-use lib.ListN.{length, drop}
+use lib.Dec.{leb, ltb, eqb}
+use lib.ListN.{length, drop, getD}
 use Rattle.unicode.specs.Utf8.{charLen}
 use Rattle.white.specs.White.{isWhite}
 use Rattle.text.specs.Chars.{code}
@@ -32,6 +32,10 @@ trim s = trimFrom false 0 s
 -- the last n bytes are one White_Space character
 unfoldable pub endsWhite : ℕ → List ℕ → Bool
 endsWhite n s = eqb (charLen (drop (length s - n) s)) n && isWhite (code n (drop (length s - n) s))
+
+-- the last three bytes are U+3000, the blank of a Japanese keyboard
+abbrev pub ends3000 : List ℕ → Bool
+ends3000 s = leb 3 (length s) && (eqb (getD s (length s - 1) 0) 0x80 && (eqb (getD s (length s - 2) 0) 0x80 && eqb (getD s (length s - 3) 0) 0xE3))
 
 -- how many bytes the White_Space character has that ends the text, 0 where none does: White_Space ends at U+3000, of three bytes
 unfoldable pub whiteEnd : List ℕ → ℕ

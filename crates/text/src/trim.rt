@@ -6,7 +6,7 @@ use white::is_white_byte;
 ghost use mathlib.Core.Path.{_≡_};
 ghost use Prim.Native.Nat.{_<_};
 ghost use lib.ListN.{length};
-ghost use Rattle.text.specs.Trim.{trim, endsWhite, whiteEnd};
+ghost use Rattle.text.specs.Trim.{trim, ends3000, endsWhite, whiteEnd};
 
 // The last n bytes, more than one, are one White_Space character.
 fn ends_white(s: &[u8], n: usize) -> bool
@@ -23,6 +23,22 @@ fn ends_white(s: &[u8], n: usize) -> bool
     false
 }
 
+// The last three bytes are U+3000, of all White_Space with several bytes what line comments end in most.
+fn ends_3000(s: &[u8]) -> bool
+    ensures { λ r. ⌜ r ≡ ends3000 (now (s .entry)) ⌝ }
+{
+    let n = s.len();
+    if n < 3 {
+        return false;
+    }
+    if s[n - 1] == 0x80 {
+        if s[n - 2] == 0x80 {
+            return s[n - 3] == 0xE3;
+        }
+    }
+    false
+}
+
 // How many bytes the White_Space character has that ends the text: 0 where none does.
 fn white_end(s: &[u8]) -> usize
     requires { ⌜ 0 < length (now s) ⌝ }
@@ -34,6 +50,9 @@ fn white_end(s: &[u8]) -> usize
     }
     if last < 0x80 {
         return 0;
+    }
+    if ends_3000(s) {
+        return 3;
     }
     if ends_white(s, 3) {
         return 3;
