@@ -18,16 +18,13 @@ use Rattle.loose.specs.declared.reason.Reason.the-variants.{Wide, Comment, Sixt
 use Rattle.loose.specs.Reason.{isEntry, crowd, childrenFrom, reason, isLoose}
 use Rattle.reasons.specs.declared.why.Why.the-variants.{Refused, Because}
 use Rattle.reasons.specs.Why.{isList, isName, ofNamed, ofFirst, ofObject, ofKind, whyAt, why}
+use Rattle.white.proofs.Bools.{or-true}
 use Rattle.reasons.proofs.Laws.{why-opened}
-use Rattle.reasons.specs.Rule.{tooWide, isNote, noted, entries, goesLoose, Met, True, TrueOf}
+use Rattle.reasons.specs.Rule.{tooWide, isNote, noted, entries, goesLoose, Among, True, TrueOf}
 use Rattle.reasons.specs.Rule.True.{wide, note, sixth, fits}
 use Rattle.reasons.specs.Rule.TrueOf.{of-list, of-object}
 
 -- ---- loose or not
-
-or-true : (a : Bool) → a || true ≡ true
-or-true true = refl
-or-true false = refl
 
 module _ (rs : List Record) (keys : Bool) where
   crowd-loose : (n : ℕ) (ks : List ℕ) → n ≤ 5 → isLoose (crowd rs keys n ks) ≡ noted rs ks || leb 6 (n + entries rs keys ks)
@@ -62,18 +59,18 @@ loose-by-rule x keys k from = go (tooWide x k)
 
 -- what the crowd says of these records, with n entries before them
 data Says (rs : List Record) (keys : Bool) (n : ℕ) (ks : List ℕ) : Reason → Type 0 where
-  said-note : {c : RecordNo} {m : ℕ} → Met rs keys ks (c .0) m → n + m ≤ 5 → isNote rs (c .0) ≡ true → Says rs keys n ks (Comment c)
-  said-sixth : {c : RecordNo} {m : ℕ} → Met rs keys ks (c .0) m → n + m ≡ 5 → isEntry keys (nodeOf rs (c .0) .kind) ≡ true → isNote rs (c .0) ≡ false
+  said-note : {c : RecordNo} {m : ℕ} → Among rs keys ks (c .0) m → n + m ≤ 5 → isNote rs (c .0) ≡ true → Says rs keys n ks (Comment c)
+  said-sixth : {c : RecordNo} {m : ℕ} → Among rs keys ks (c .0) m → n + m ≡ 5 → isEntry keys (nodeOf rs (c .0) .kind) ≡ true → isNote rs (c .0) ≡ false
       → Says rs keys n ks (Sixth c)
   said-none : Says rs keys n ks Fits
 
 module _ (rs : List Record) (keys : Bool) where
   -- met at once, or behind record k
-  met-here : (k : ℕ) (ks : List ℕ) → Met rs keys (k ∷ ks) k 0
+  met-here : (k : ℕ) (ks : List ℕ) → Among rs keys (k ∷ ks) k 0
   unfolding noted entries
   met-here k ks = record { before = []; after = ks; cut = refl; no-note = refl; count = refl }
 
-  met-behind : (k : ℕ) {ks : List ℕ} {c m m′ : ℕ} → isNote rs k ≡ false → cond (isEntry keys (nodeOf rs k .kind)) (suc m) m ≡ m′ → Met rs keys ks c m → Met rs keys (k ∷ ks) c m′
+  met-behind : (k : ℕ) {ks : List ℕ} {c m m′ : ℕ} → isNote rs k ≡ false → cond (isEntry keys (nodeOf rs k .kind)) (suc m) m ≡ m′ → Among rs keys ks c m → Among rs keys (k ∷ ks) c m′
   unfolding noted entries
   met-behind k e f g = record { before = k ∷ g .before; after = g .after; cut = rw (g .cut); no-note = rw e (g .no-note); count = rw (g .count) f }
 

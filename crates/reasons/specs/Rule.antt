@@ -42,7 +42,7 @@ goesLoose x keys k from =
     tooWide x k || (noted (x .tree) ks || leb 6 (entries (x .tree) keys ks))
 
 -- record c is one of these; before it no line comment, and so many entries
-pub record Met (rs : List Record) (keys : Bool) (ks : List ℕ) (c : ℕ) (n : ℕ) : Type 0 where
+pub record Among (rs : List Record) (keys : Bool) (ks : List ℕ) (c : ℕ) (n : ℕ) : Type 0 where
   pub before : List ℕ
   pub after : List ℕ
   pub cut : ks ≡ before ++ (c ∷ after)
@@ -52,9 +52,9 @@ pub record Met (rs : List Record) (keys : Bool) (ks : List ℕ) (c : ℕ) (n : �
 -- what each reason says of node k, whose records count from one on
 pub data True (x : Script) (keys : Bool) (k : RecordNo) (from : ℕ) : Reason → Type 0 where
   wide : tooWide x k ≡ true → True x keys k from (Wide (placeIn (x .source) (nodeOf (x .tree) (k .0) .span) 80))
-  note : {c : RecordNo} {n : ℕ} → tooWide x k ≡ false → Met (x .tree) keys (childrenFrom (x .tree) k from) (c .0) n → n ≤ 5
+  note : {c : RecordNo} {n : ℕ} → tooWide x k ≡ false → Among (x .tree) keys (childrenFrom (x .tree) k from) (c .0) n → n ≤ 5
       → isNote (x .tree) (c .0) ≡ true → True x keys k from (Comment c)
-  sixth : {c : RecordNo} → tooWide x k ≡ false → Met (x .tree) keys (childrenFrom (x .tree) k from) (c .0) 5
+  sixth : {c : RecordNo} → tooWide x k ≡ false → Among (x .tree) keys (childrenFrom (x .tree) k from) (c .0) 5
       → isEntry keys (nodeOf (x .tree) (c .0) .kind) ≡ true → isNote (x .tree) (c .0) ≡ false → True x keys k from (Sixth c)
   fits : goesLoose x keys k from ≡ false → True x keys k from Fits
 
