@@ -1,4 +1,6 @@
 // What the measurements call: the checks, the count, opening and a list of calls, each without the work of a public function around it.
+#![tactic(auto)]
+
 pub mod history;
 pub mod pack;
 

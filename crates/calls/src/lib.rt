@@ -1,4 +1,6 @@
 // The eleven calls. All have one list of parameters and one contract: what is left is what the plan of this one call leaves.
+#![tactic(auto)]
+
 pub mod flush;
 
 ghost use Rattle.std.specs.Prelude.{◌≡◌};

@@ -1,5 +1,7 @@
 // Document 01's small sessions through the public functions: each answer, how many comments wait, and the output. P1 to P3 and the two lists are
 // layout runs, P4 to P10 calls.
+#![tactic(auto)]
+
 mod lists;
 mod say;
 

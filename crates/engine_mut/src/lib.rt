@@ -1,5 +1,7 @@
 // An engine that is changed in place: thin calls on a lent engine. Each takes the state apart, calls the function of `entry` or `format` on it
 // by value, and stores back what that hands back, so none has work of its own.
+#![tactic(auto)]
+
 ghost use Rattle.entry.specs.Served.{Served, call_left};
 ghost use Rattle.engine_mut.specs.Stored.{Changed, called, recorded, laid, laid_whole};
 

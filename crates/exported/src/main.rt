@@ -1,5 +1,7 @@
 // Recorded sessions through the exported functions: the answer and every byte of state and buffer behind each are held against what was
 // recorded. tests/outside/README.md says what is recorded, and has the file's form.
+#![tactic(auto)]
+
 mod session;
 mod tally;
 

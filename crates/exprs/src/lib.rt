@@ -1,5 +1,7 @@
 // Expressions, statements, blocks, and the items that hold blocks: the functions of `Lay` call each other in a cycle, in which the depth
 // that is left in the tree falls.
+#![tactic(auto)]
+
 mod arms;
 mod block;
 mod chain;

@@ -1,4 +1,6 @@
 // What the byte of a tree's record means. docs/KINDS.md is the same list for people, specs/Facts.antt for proofs.
+#![tactic(auto)]
+
 ghost use Rattle.std.specs.Prelude.{◌≡◌};
 ghost use Rattle.kinds.specs.Kinds.{kind_of, is_leaf};
 

@@ -1,5 +1,7 @@
 // Holds the three lists of kinds together: the code's (rows.rt, proved from the definitions of crate kinds), the table for machines
 // (data/kinds.txt) and the document for people (data/KINDS.md).
+#![tactic(auto)]
+
 mod compare;
 mod document;
 mod rows;

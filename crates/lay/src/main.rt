@@ -4,6 +4,8 @@
 //
 // writes the laid-out text to standard output, byte for byte as the library gives it; or, to standard error, one line with the refusal's
 // number, its meaning and its place.
+#![tactic(auto)]
+
 use entry::state::fresh;
 use format::runs::lay_out;
 use meaning::answer::Answer;

@@ -1,6 +1,8 @@
 // Opens a script and its tree, as the box does before it lays one out, and says in words what it found:
 //
 //     look SCRIPT TREE
+#![tactic(auto)]
+
 use opening::open::Opening;
 use telling::files::read;
 use text::span::BytePos;

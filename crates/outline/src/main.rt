@@ -4,6 +4,8 @@
 //
 // For each record its kind, its line and the beginning of its text, set in by its depth; then what was refused of the calls, and the text that
 // they laid out. CALLS has call records, each behind a byte that says how long it is.
+#![tactic(auto)]
+
 mod call_list;
 mod lending;
 mod lines;

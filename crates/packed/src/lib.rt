@@ -1,5 +1,6 @@
 // Recorded cases, as oracle/README.md has them: numbers, and bytes as pieces that stand several times each. Whatever the file holds, every
 // read is answered.
+#![tactic(auto)]
 
 // Bytes unpacked: where the file goes on, and how many there are.
 #[derive(Drop)]

@@ -1,4 +1,6 @@
 // What stands in expressions and statements and leads to no expression.
+#![tactic(auto)]
+
 pub mod args;
 pub mod heads;
 pub mod labels;

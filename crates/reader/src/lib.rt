@@ -1,5 +1,7 @@
 // One reader holds the lent tree with its place: the decoded table and a cursor over it. Each function takes the reader apart and calls the
 // cursor's function of `tree`, so none has work of its own.
+#![tactic(auto)]
+
 ghost use Rattle.std.specs.Prelude.{◌≡◌};
 ghost use Rattle.tree.specs.Table.{tree_of};
 ghost use Rattle.tree.specs.Cursor.{peek_of, take_of, child_of};

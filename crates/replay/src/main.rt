@@ -1,5 +1,7 @@
 // Recorded histories of calls, and of calls and layout runs: answer, state and buffer behind each step are held against what the oracle recorded of the Rust.
 // oracle/README.md has the file's form.
+#![tactic(auto)]
+
 mod compare;
 mod history;
 mod tally;

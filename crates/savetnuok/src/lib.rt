@@ -1,5 +1,7 @@
 // The functions that a C program links: numbers and byte slices only. Each asks all it needs of what is lent, and promises its answer
 // and every byte of what it may write.
+#![tactic(auto)]
+
 ghost use Rattle.std.specs.Prelude.{◌≡◌, false};
 ghost use Rattle.lent.specs.Run.{is_refused};
 ghost use Rattle.savetnuok.specs.Exported.{then_shape, Opened, CalledOn, LaidAs, LaidOn, WholeOn};

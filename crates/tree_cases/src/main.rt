@@ -1,4 +1,6 @@
 // Recorded trees, good and damaged: what opening answers is held against what the oracle recorded. oracle/README.md has the file's form.
+#![tactic(auto)]
+
 use opening::open::Opening;
 
 // How many cases agreed, of each answer, and how many did not.

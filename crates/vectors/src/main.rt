@@ -1,5 +1,7 @@
 // Outside vectors for `text`: every code point's White_Space against the 25 one by one, and well-formedness with the first ill-formed
 // place over all inputs of one, two and three bytes and the edges of those of four, against a naive decoder.
+#![tactic(auto)]
+
 mod naive;
 
 use encoding::utf8::Formed;

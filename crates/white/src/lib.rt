@@ -1,4 +1,6 @@
 // White_Space, Unicode's property.
+#![tactic(auto)]
+
 ghost use Rattle.std.specs.Prelude.{◌≡◌};
 ghost use Rattle.white.specs.White.{is_white, white_byte};
 

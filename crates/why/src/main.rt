@@ -4,6 +4,8 @@
 //     why SCRIPT TREE NODE    the list of one node, by its number; a compact one, too
 //
 // to standard output. What is refused goes to standard error: its number, its meaning, its place.
+#![tactic(auto)]
+
 mod digits;
 mod excerpt;
 mod sentence;
