@@ -4,14 +4,14 @@ ghost use Rattle.encoding.specs.Utf8.{◌⋯◌, cont, second, all_in, char_len,
 ghost use Rattle.encoding.specs.Walk.{ByteIn, Past, PlainTo, wide_to};
 
 // Well-formed, or the first byte of the first ill-formed sequence.
-#[derive(Drop)]
+#[derive(Clone, Copy)]
 pub enum Formed {
     Well,
     Ill(usize),
 }
 
 // Where a run of characters ends: at a byte, or at an ill-formed sequence.
-#[derive(Drop)]
+#[derive(Clone, Copy)]
 enum Run {
     To(usize),
     Ill(usize),

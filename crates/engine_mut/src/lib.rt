@@ -10,7 +10,7 @@ use meaning::answer::Answer;
 use meaning::call::Call;
 use tree::record::RecordNo;
 
-#[derive(Drop)]
+#[derive(Clone, Copy)]
 pub struct Engine {
     pub state: State,
 }

@@ -7,7 +7,7 @@ ghost use Rattle.entry.specs.Served.{as_call, numbered};
 use meaning::call::{Call, Hint, Literal};
 use tree::record::RecordNo;
 
-#[derive(Drop)]
+#[derive(Clone, Copy)]
 pub enum Decoded {
     Made(Call),
     // Unknown, cut, with bytes behind it, or with a body value that is not listed.

@@ -12,7 +12,7 @@ use lent::ring::{Queue, tidy};
 use meaning::answer::{Answer, number, place};
 
 // The scalars; the queue has `count` comments.
-#[derive(Drop)]
+#[derive(Clone, Copy)]
 pub struct Small {
     pub len: usize,
     pub count: u32,
@@ -24,13 +24,13 @@ pub struct Small {
 }
 
 // The queue stands from slot 0 on, four words a comment, with zero behind it.
-#[derive(Drop)]
+#[derive(Clone, Copy)]
 pub struct State {
     pub now: Small,
     pub queue: [u32; 1024],
 }
 
-#[derive(Drop)]
+#[derive(Clone, Copy)]
 pub struct Step {
     pub answer: Answer,
     pub state: State,

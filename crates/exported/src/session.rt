@@ -6,7 +6,7 @@ use crate::tally::{Counts, add, add_if};
 use savetnuok::{savetnuok_call, savetnuok_open, savetnuok_run, savetnuok_why};
 
 // Where the file goes on, and how many bytes of each are lent.
-#[derive(Drop)]
+#[derive(Clone, Copy)]
 pub struct Lent {
     pub at: usize,
     pub source: usize,

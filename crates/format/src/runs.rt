@@ -17,7 +17,7 @@ use tree::record::RecordNo;
 use tree::table::{decode, first};
 
 // What a run lays out: a node, or the whole script.
-#[derive(Drop)]
+#[derive(Clone, Copy)]
 pub enum Wanted {
     Node(RecordNo),
     All,

@@ -7,7 +7,7 @@ use crate::{Kind, bytes};
 
 // The class of a statement, by which `block_content` sets blank lines. None: no kind of statement. (A composite of such a kind still runs as
 // one, of class Other.)
-#[derive(Drop)]
+#[derive(Clone, Copy)]
 pub enum Class {
     Item,
     Const,

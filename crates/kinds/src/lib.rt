@@ -11,7 +11,7 @@ pub use class::{Class, class_at, class_of, has_rule, is_expr, needs_semi, semi_a
 
 // A case has the Rust's name, a word or a mark that of what `K!` stands for. A statement's is the table's, as several bytes are one kind of
 // the Rust's there; so are LitOther and Op, each of which is several of its kinds.
-#[derive(Drop)]
+#[derive(Clone, Copy)]
 pub enum Kind {
     // White space and comments.
     Whitespace,

@@ -3,7 +3,7 @@ use crate::text::{digit, line, next_line, part, word};
 use crate::{document, table};
 
 // All agree, on so many kinds; or the first place of the code's list where another list does not.
-#[derive(Drop)]
+#[derive(Clone, Copy)]
 pub enum Found {
     Agree(usize),
     Table(usize),

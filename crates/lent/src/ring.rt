@@ -8,7 +8,7 @@ use text::span::{BytePos, Span};
 pub type Queue = [u32; 1024];
 
 // A comment as it waits.
-#[derive(Drop)]
+#[derive(Clone, Copy)]
 pub struct Comment {
     pub span: Span,
     pub before: u32,

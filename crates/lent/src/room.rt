@@ -5,7 +5,7 @@ ghost use Rattle.meaning.specs.Pieces.{space, breaks};
 ghost use Rattle.lent.specs.View.{gap_bytes, Laid};
 
 // White space in front of a text: newlines, then spaces.
-#[derive(Drop)]
+#[derive(Clone, Copy)]
 pub struct Gap {
     pub lines: usize,
     pub spaces: usize,

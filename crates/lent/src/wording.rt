@@ -6,7 +6,7 @@ ghost use Rattle.lent.specs.Wording.{lit_span, wording_of};
 use meaning::call::Literal;
 use text::span::{BytePos, Span, part};
 
-#[derive(Drop)]
+#[derive(Clone, Copy)]
 pub enum Wording {
     Node(Span),
     Literal(Literal),

@@ -13,7 +13,7 @@ use tree::record::RecordNo;
 use tree::table::{kind_at, node};
 
 // The first call behind the head, and how many records stand there as far as it, it among them; or none.
-#[derive(Drop)]
+#[derive(Clone, Copy)]
 enum Tail {
     Call(u32, RecordNo),
     Absent,

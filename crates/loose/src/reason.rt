@@ -13,7 +13,7 @@ use tree::table::{kind_at, node};
 use width::place::place_in;
 
 // The node's span is too wide, by the character at this place; a line comment stands among its records; a sixth entry does; or none of these.
-#[derive(Drop)]
+#[derive(Clone, Copy)]
 pub enum Reason {
     Wide(BytePos),
     Comment(RecordNo),

@@ -7,7 +7,7 @@ use tree::record::RecordNo;
 
 // The twelve refusals, in the order of their numbers. A place is a byte of the source, a record of the tree,
 // or, where it is neither, a plain count: an output length, an indent, a byte of the call records.
-#[derive(Drop)]
+#[derive(Clone, Copy)]
 pub enum Refusal {
     SourceLong,
     SourceIll(BytePos),
@@ -23,7 +23,7 @@ pub enum Refusal {
     BadCall(usize),
 }
 
-#[derive(Drop)]
+#[derive(Clone, Copy)]
 pub enum Answer {
     Done,
     Refused(Refusal),

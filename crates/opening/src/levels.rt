@@ -9,7 +9,7 @@ use text::span::BytePos;
 use tree::record::{Record, RecordNo, body, record_at};
 
 // A good tree with so many records, the first record that breaks a rule, or the first that stands too deep.
-#[derive(Drop)]
+#[derive(Clone, Copy)]
 pub enum Verdict {
     Good(RecordNo),
     Bad(RecordNo),
@@ -17,12 +17,12 @@ pub enum Verdict {
 }
 
 // So many records. No place is one, and no record's number.
-#[derive(Drop)]
+#[derive(Clone, Copy)]
 struct Records(usize);
 
 // Siblings that are still to be checked, with all below them: the byte and the number of the first, how many records they are, and where
 // the sibling before them ended or the parent starts.
-#[derive(Drop)]
+#[derive(Clone, Copy)]
 struct Part {
     at: usize,
     first: RecordNo,
@@ -31,21 +31,21 @@ struct Part {
 }
 
 // What the first record of a part is.
-#[derive(Drop)]
+#[derive(Clone, Copy)]
 enum Next {
     Keeps(Record),
     Bad(RecordNo),
 }
 
 // So many leaves, and the byte behind them.
-#[derive(Drop)]
+#[derive(Clone, Copy)]
 struct Leaves {
     n: Records,
     at: usize,
 }
 
 // What a level's walk finds: the byte behind it, or a refusal's record.
-#[derive(Drop)]
+#[derive(Clone, Copy)]
 enum Walked {
     Good(usize),
     Bad(RecordNo),

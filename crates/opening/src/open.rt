@@ -8,7 +8,7 @@ use text::span::BytePos;
 use tree::record::RecordNo;
 
 // So many records of a good tree, or what is refused and where.
-#[derive(Drop)]
+#[derive(Clone, Copy)]
 pub enum Opening {
     Good(RecordNo),
     SourceLong,

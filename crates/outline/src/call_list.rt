@@ -4,7 +4,7 @@ use entry::state::State;
 use meaning::answer::{Answer, number, place};
 
 // Where the file goes on, and the engine's state.
-#[derive(Drop)]
+#[derive(Clone, Copy)]
 struct Next {
     at: usize,
     state: State,

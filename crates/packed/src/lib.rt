@@ -3,7 +3,7 @@
 #![tactic(auto)]
 
 // Bytes unpacked: where the file goes on, and how many there are.
-#[derive(Drop)]
+#[derive(Clone, Copy)]
 pub struct Unpacked {
     pub at: usize,
     pub len: usize,

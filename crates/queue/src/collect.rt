@@ -16,7 +16,7 @@ use tree::table::{node, size};
 
 // What a record is to the collector: a composite that has children, a comment (of a line or not), white space with so many newlines, or
 // any other record, where collecting ends.
-#[derive(Drop)]
+#[derive(Clone, Copy)]
 enum Met {
     Inner,
     Remark(bool),

@@ -16,14 +16,14 @@ use text::span::part;
 use text::trim::trimmed;
 
 // By lines, of the same line only or not; or by spaces, with one in front or not and one behind or not.
-#[derive(Drop)]
+#[derive(Clone, Copy)]
 pub enum Way {
     Lines(bool),
     Spaces(bool, bool),
 }
 
 // What the first pass finds: no room, or how many go and the output's length behind them.
-#[derive(Drop)]
+#[derive(Clone, Copy)]
 enum Fit {
     Past,
     Goes(u32, usize),

@@ -9,7 +9,7 @@ ghost use Rattle.reader.specs.Moved.{Moved};
 
 use tree::cursor::{Cursor, Found, children, take};
 
-#[derive(Drop)]
+#[derive(Clone, Copy)]
 pub struct Reader<'a> {
     pub table: &'a [u32],
     pub place: Cursor,

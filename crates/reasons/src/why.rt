@@ -15,7 +15,7 @@ use tree::record::RecordNo;
 use tree::table::{decode, first, kind_at, size};
 
 // The reason, `Fits` where there is none; or the refusal.
-#[derive(Drop)]
+#[derive(Clone, Copy)]
 pub enum Why {
     Refused(Refusal),
     Because(Reason),

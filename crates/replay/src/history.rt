@@ -9,7 +9,7 @@ use format::runs;
 use tree::record::RecordNo;
 
 // Where the file goes on within a history, with the engine as last left.
-#[derive(Drop)]
+#[derive(Clone, Copy)]
 struct Next {
     at: usize,
     state: State,
@@ -85,7 +85,7 @@ fn untouched(out: &mut [u8]) {
 }
 
 // Where the source and the tree end in their buffers, and where the file goes on.
-#[derive(Drop)]
+#[derive(Clone, Copy)]
 struct Loaded {
     source: usize,
     list: usize,

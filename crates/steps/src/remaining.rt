@@ -16,7 +16,7 @@ use tree::record::RecordNo;
 use walk::stream::{Stream, eat, is_some, next_is, not_met};
 
 // The tokens that format.rs lets be missing.
-#[derive(Drop)]
+#[derive(Clone, Copy)]
 pub enum Mark {
     Comma,
     SemiColon,
@@ -25,7 +25,7 @@ pub enum Mark {
 }
 
 // The token's record, 8,192 where it is missing, 8,193 before the first item of a list.
-#[derive(Drop)]
+#[derive(Clone, Copy)]
 pub struct Remaining(pub u32);
 
 // The one before any was looked for: the Rust's `Remaining::default`.

@@ -1,7 +1,7 @@
 // Files that the program's arguments name.
 
 // A file's bytes in a buffer: how many, or none found.
-#[derive(Drop)]
+#[derive(Clone, Copy)]
 pub struct File {
     pub found: bool,
     pub len: usize,

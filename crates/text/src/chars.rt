@@ -6,7 +6,7 @@ use crate::span::{BytePos, Span};
 use encoding::utf8::char_len;
 
 // A character: its code point, and how many bytes it has.
-#[derive(Drop)]
+#[derive(Clone, Copy)]
 pub struct Char {
     pub code: u32,
     pub len: usize,

@@ -5,7 +5,7 @@ ghost use Rattle.text.specs.Source.{checked};
 use crate::span::BytePos;
 use encoding::utf8::Formed;
 
-#[derive(Drop)]
+#[derive(Clone, Copy)]
 pub enum Checked {
     Good,
     Long,

@@ -3,11 +3,11 @@ ghost use Rattle.std.specs.Prelude.{◌≡◌};
 ghost use Rattle.text.specs.Span.{earlier, later, joined, head_of, text_of};
 
 // A place in the source, in bytes. No record number is one.
-#[derive(Drop)]
+#[derive(Clone, Copy)]
 pub struct BytePos(pub u32);
 
 // A span of the source: from start up to, not including, end.
-#[derive(Drop)]
+#[derive(Clone, Copy)]
 pub struct Span {
     pub start: BytePos,
     pub end: BytePos,

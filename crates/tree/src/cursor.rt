@@ -7,20 +7,20 @@ use crate::record::RecordNo;
 use crate::table::{kind_at, node, size};
 
 // The records from `at` up to, not including, `end`.
-#[derive(Drop)]
+#[derive(Clone, Copy)]
 pub struct Cursor {
     pub at: RecordNo,
     pub end: RecordNo,
 }
 
-#[derive(Drop)]
+#[derive(Clone, Copy)]
 pub enum Found {
     At(RecordNo),
     None,
 }
 
 // What was taken, and the cursor behind it.
-#[derive(Drop)]
+#[derive(Clone, Copy)]
 pub struct Taken {
     pub found: Found,
     pub rest: Cursor,

@@ -5,11 +5,11 @@ ghost use Rattle.tree.specs.Records.{four, body_of, cut_record, record_at};
 use text::span::{BytePos, Span};
 
 // The number of a record in the list. No byte place is one.
-#[derive(Drop)]
+#[derive(Clone, Copy)]
 pub struct RecordNo(pub u32);
 
 // A record as read; a cut one is not whole and has no numbers.
-#[derive(Drop)]
+#[derive(Clone, Copy)]
 pub struct Record {
     pub whole: bool,
     pub kind: u8,

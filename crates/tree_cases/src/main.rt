@@ -4,7 +4,7 @@
 use opening::open::Opening;
 
 // How many cases agreed, of each answer, and how many did not.
-#[derive(Drop)]
+#[derive(Clone, Copy)]
 struct Tally {
     good: u64,
     long: u64,
@@ -62,7 +62,7 @@ fn report(t: Tally) {
 }
 
 // The tally with one case more, and where the next one starts.
-#[derive(Drop)]
+#[derive(Clone, Copy)]
 struct Next {
     tally: Tally,
     at: usize,

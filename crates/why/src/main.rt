@@ -49,7 +49,7 @@ fn one(name: &[u8], source: &[u8], tree: &[u8], table: &[u32], k: RecordNo) {
 }
 
 // How many lists there are, and how many of them go over several lines.
-#[derive(Drop)]
+#[derive(Clone, Copy)]
 struct Seen {
     lists: u64,
     broken: u64,

@@ -9,7 +9,7 @@ use text::chars::char_at;
 use white::{is_white, is_white_byte};
 
 // What a walk over characters found: how many are outside White_Space, and the place where it ended.
-#[derive(Drop)]
+#[derive(Clone, Copy)]
 struct Tally {
     dark: u64,
     end: usize,
