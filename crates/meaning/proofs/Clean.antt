@@ -23,7 +23,7 @@ use Rattle.meaning.specs.State.{Script, Note, Comment, note_of, State}
 use Rattle.meaning.specs.Pieces.{unit, space, breaks, Piece, gap, text, comment, bytes_of, flat}
 use Rattle.meaning.specs.Collect.{Met, met_at, met_of, node_text, behind}
 use Rattle.meaning.specs.Flush.{breaking, flush_gap}
-use Rattle.meaning.specs.Release.{comment_text, line_gap, line_pieces, space_pieces, behind_gap}
+use Rattle.meaning.specs.Release.{is_nil, trimmed, comment_text, line_gap, line_pieces, space_pieces, behind_gap}
 use Rattle.meaning.specs.Calls.{lit_text}
 use Rattle.meaning.specs.Demand3.{SpansInside, notes, notes_from, collects}
 
@@ -172,7 +172,7 @@ module _ (src : List ℕ) (w : formed src ≡ Well) where
   unfolding line_pieces
   clean_line indent empty [] h = no_piece
   clean_line indent empty (c ∷ cs) (a_note h r) =
-      a_piece (clean_gap src (blanks_line indent empty c.before)) (a_piece (clean_trim c.line c (span_formed c.span h)) (clean_line indent _ cs r))
+      a_piece (clean_gap src (blanks_line indent empty c.before)) (a_piece (clean_trim c.line c (span_formed c.span h)) (clean_line indent (empty && is_nil (trimmed src c)) cs r))
 
   pub clean_space : (front empty : Bool) (cs : List Comment) → Inside src (map note_of cs) → AllClean src (space_pieces src front empty cs)
   unfolding space_pieces

@@ -1,7 +1,7 @@
 -- Laws of the engine's parts, on plain lists. Assumes nothing.
 use mathlib.Core.Path.{◌≡◌, refl, sym, ap, ◌∙◌}
 use Prim.Native.Nat.{ℕ, zero, suc, ◌-◌, ◌≤◌, zero-le, suc-le-suc}
-use mathlib.Core.Bool.{Bool, true, false, cond}
+use mathlib.Core.Bool.{Bool, true, false, cond, ◌&&◌}
 use mathlib.Core.List.{List, [], ◌∷◌, ◌++◌, map, append_assoc}
 use lib.ListN.{length}
 use Rattle.meaning.specs.declared.answer.Refusal.{Refusal}
@@ -9,7 +9,7 @@ use Rattle.meaning.specs.State.{Script, Note, Comment, note_of, queued, State}
 use Rattle.meaning.specs.Pieces.{Piece, gap, text, comment, bytes_of, flat}
 use Rattle.meaning.specs.Outcome.{Outcome, done, refused, refuse_if}
 use Rattle.meaning.specs.Collect.{Met, inner, remark, blank, stop, met_from, Collected, full, got, before, collect, on_got, collected, gather}
-use Rattle.meaning.specs.Release.{take_until, drop_until, stop_line, line_pieces, space_pieces}
+use Rattle.meaning.specs.Release.{take_until, drop_until, stop_line, is_nil, trimmed, line_pieces, space_pieces}
 use Rattle.meaning.specs.Demand3.{notes, notes_from}
 
 pub map_append : {A B : Type 0} (f : A → B) (xs ys : List A) → map f (xs ++ ys) ≡ map f xs ++ map f ys
@@ -69,12 +69,12 @@ module _ (src : List ℕ) where
   pub line_freed : (indent : ℕ) (empty : Bool) (cs : List Comment) → freed (line_pieces src indent empty cs) ≡ map note_of cs
   unfolding line_pieces
   line_freed indent empty [] = refl
-  line_freed indent empty (c ∷ cs) = ap (note_of c ∷◌) (line_freed indent _ cs)
+  line_freed indent empty (c ∷ cs) = ap (note_of c ∷◌) (line_freed indent (empty && is_nil (trimmed src c)) cs)
 
   pub line_texts : (indent : ℕ) (empty : Bool) (cs : List Comment) → texts (line_pieces src indent empty cs) ≡ []
   unfolding line_pieces
   line_texts indent empty [] = refl
-  line_texts indent empty (c ∷ cs) = line_texts indent _ cs
+  line_texts indent empty (c ∷ cs) = line_texts indent (empty && is_nil (trimmed src c)) cs
 
   pub space_freed : (front empty : Bool) (cs : List Comment) → freed (space_pieces src front empty cs) ≡ map note_of cs
   unfolding space_pieces

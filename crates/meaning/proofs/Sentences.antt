@@ -54,10 +54,10 @@ flush_bytes s = go (breaking s)
 -- ---- the releases, comment by comment
 
 -- pieces, and what is written from the state behind them on
-abbrev pub ◌andThen◌ : List Piece → Emit → Emit
+abbrev pub ◌and_then◌ : List Piece → Emit → Emit
 ps and_then e = record { state = e.state; out = ps ++ e.out }
 
-infix 20 ◌andThen◌
+infix 20 ◌and_then◌
 -- whether the output is empty behind a gap and a text, where an empty output gets no gap
 empty_next : (n : ℕ) (g t : List ℕ) → (eqb n 0 ≡ true → g ≡ []) → eqb (n + length (g ++ (t ++ []))) 0 ≡ eqb n 0 && is_nil t
 empty_next zero g t h = rw (h refl, append-nil t, zero-add) (no_bytes t)

@@ -77,6 +77,7 @@ module _ (x : Script) (cap : ℕ) where
   closed_from {s} (go c e r) h = absurd (true≢false (sym h ∙ was_open x cap s c e))
 
   finished_from : {s t : State} {ms : List Made} → Steps x cap s ms t → Finishes (calls_in ms) → t.finished ≡ true
+  finished_from (nil {s = s}) x6 = elim x6 [ ]
   finished_from {s} (go c e r) here = closed_from r (closes x cap s e)
   finished_from (go c e r) (there f) = finished_from r f
 
