@@ -1,7 +1,7 @@
 -- The one form of contract for calls and rules, over what is lent as a whole. Assumes nothing.
 use Rattle.std.specs.Prelude.{◌≡◌, ℕ, List}
 use Rattle.std.proofs.lemmas.List.Edits.{sets}
-use Rattle.std.specs.Borrow.{Bor}
+use Rattle.std.specs.Borrow.{Bor, MutBor}
 use denote.Triple.Both.{Both}
 use Rattle.meaning.specs.State.{Script}
 use Rattle.meaning.specs.World.{Result}
@@ -9,15 +9,18 @@ use Rattle.meaning.specs.Plan.{Plan, Ran}
 use Rattle.lent.specs.View.{script_of, result_of}
 use Rattle.lent.specs.Words.{run_of}
 
--- numbers lent, at entry and at exit
+-- numbers lent, at entry and at exit: to be read, or to be written too
 abbrev pub Loan : Type 0
 Loan = Both (Bor (List ℕ)) (Bor (List ℕ))
+
+abbrev pub MutLoan : Type 0
+MutLoan = Both (MutBor (List ℕ)) (MutBor (List ℕ))
 
 abbrev pub script : Loan → Loan → Script
 script src table = script_of src.entry.now table.entry.now
 
 -- these bytes stand in the buffer from a place on, and nothing else has changed
-abbrev pub Wrote : Loan → ℕ → List ℕ → Type 0
+abbrev pub Wrote : MutLoan → ℕ → List ℕ → Type 0
 Wrote out at bytes = out.exit.now ≡ sets out.entry.now at bytes
 
 -- what is lent of the engine: its words, the queue, the buffer
@@ -33,22 +36,22 @@ engine w q b = record { fmt = w; queue = q; out = b }
 unfoldable pub reads : Engine → Result
 reads e = result_of (run_of e.fmt) e.queue e.out
 
-abbrev pub before : Loan → Loan → Loan → Engine
+abbrev pub before : MutLoan → MutLoan → MutLoan → Engine
 before fmt queue out = engine fmt.entry.now queue.entry.now out.entry.now
 
-abbrev pub after : Loan → Loan → Loan → Engine
+abbrev pub after : MutLoan → MutLoan → MutLoan → Engine
 after fmt queue out = engine fmt.exit.now queue.exit.now out.exit.now
 
 -- the plan p is executed, from e to e'
 pub record Makes (x : Script) (p : Plan) (e e' : Engine) : Type 0 where
   pub ran : Ran x p (reads e) (reads e')
 
-abbrev pub Made : Loan → Loan → Loan → Loan → Loan → Plan → Type 0
+abbrev pub Made : Loan → Loan → MutLoan → MutLoan → MutLoan → Plan → Type 0
 Made src table fmt queue out p = Makes (script src table) p (before fmt queue out) (after fmt queue out)
 
 -- a plan without a call: whatever the script, the queue and the buffer, only the words change
 pub record Refuses (p : Plan) (w w' : List ℕ) : Type 0 where
   pub ran : (x : Script) (q b : List ℕ) → Makes x p (engine w q b) (engine w' q b)
 
-abbrev pub Refused : Loan → Plan → Type 0
+abbrev pub Refused : MutLoan → Plan → Type 0
 Refused fmt p = Refuses p fmt.entry.now fmt.exit.now

@@ -13,7 +13,7 @@ use Rattle.meaning.specs.World.{world, capacity, Result, made}
 use Rattle.meaning.specs.Plan.{go_on}
 use Rattle.lent.specs.Run.{Run, is_refused, answered, collected_run}
 use Rattle.lent.specs.Words.{run_of}
-use Rattle.lent.specs.Loans.{Loan, script}
+use Rattle.lent.specs.Loans.{Loan, MutLoan, script}
 use Rattle.lent.specs.declared.room.Gap.{Gap}
 use Rattle.queue.specs.declared.release.Way.{Way}
 use Rattle.queue.specs.Passes.{release_of}
@@ -32,7 +32,7 @@ pub record LetsOut (src : List ℕ) (w : Way) (q : List ℕ) (run : Run) (b : Li
   pub out : result_of r q b' ≡ onward (λ cap s. settles cap s (release_of src w s) (λ s'. s')) (result_of run q b)
   pub stays : is_refused r.answer ≡ true → r ≡ answered run r.answer
 
-abbrev pub Released : Loan → Loan → Loan → Loan → Way → Type 0
+abbrev pub Released : Loan → MutLoan → MutLoan → MutLoan → Way → Type 0
 Released src fmt queue out w =
     LetsOut src.entry.now w queue.entry.now (run_of fmt.entry.now) out.entry.now (run_of fmt.exit.now) out.exit.now
 
@@ -40,7 +40,7 @@ Released src fmt queue out w =
 pub record PutText (preserve : Bool) (t : List ℕ) (run : Run) (b : List ℕ) (r : Run) (b' : List ℕ) : Type 0 where
   pub out : (q : List ℕ) → result_of r q b' ≡ onward (λ cap s. settles cap s (flush preserve s (text t ∷ [])) (λ s'. s')) (result_of run q b)
 
-abbrev pub Put : Loan → Loan → Bool → Loan → Type 0
+abbrev pub Put : MutLoan → MutLoan → Bool → Loan → Type 0
 Put fmt out preserve t = PutText preserve t.entry.now (run_of fmt.entry.now) out.entry.now (run_of fmt.exit.now) out.exit.now
 
 abbrev pub on_answer : Answer → Outcome → Outcome
@@ -60,7 +60,7 @@ pub record Collects (x : Script) (i lines : ℕ) (run : Run) (q : List ℕ) (sto
   pub full : stop ≡ true → r ≡ answered run r.answer
   pub rest : stop ≡ false → r ≡ collected_run run r.lines r.count
 
-abbrev pub Collected : Loan → Loan → Loan → Loan → ℕ → ℕ → Bool → Type 0
+abbrev pub Collected : Loan → Loan → MutLoan → MutLoan → ℕ → ℕ → Bool → Type 0
 Collected src table fmt queue i lines stop =
     Collects (script src table) i lines (run_of fmt.entry.now) queue.entry.now stop (run_of fmt.exit.now) queue.exit.now
 

@@ -8,7 +8,7 @@ use Rattle.meaning.specs.Opening.{script_in, opening}
 use Rattle.meaning.specs.Numbers.{seen}
 use Rattle.meaning.specs.World.{world, Result, result, call_record}
 use Rattle.meaning.specs.Plan.{Plan, run}
-use Rattle.lent.specs.Loans.{Loan}
+use Rattle.lent.specs.Loans.{Loan, MutLoan}
 use Rattle.format.specs.declared.runs.Wanted.{Wanted}
 use Rattle.format.specs.Laid.{plan_of}
 use Rattle.rules.specs.Rules.{layout}
@@ -60,7 +60,7 @@ call_result src tree st b bytes = call_record (then_shape (opening src tree) (sh
 abbrev pub Called : List ℕ → List ℕ → List ℕ → List ℕ → List ℕ → ℕ → List ℕ → List ℕ → Type 0
 Called src tree st b bytes n st' b' = Handed st (call_result src tree st b bytes) n st' b'
 
-abbrev pub CalledOn : Loan → Loan → Loan → Loan → Loan → ℕ → Type 0
+abbrev pub CalledOn : Loan → Loan → MutLoan → MutLoan → Loan → ℕ → Type 0
 CalledOn source tree state out bytes n =
     Called source.entry.now tree.entry.now state.entry.now out.entry.now bytes.entry.now n state.exit.now out.exit.now
 
@@ -83,17 +83,17 @@ run_result src tree st b p =
 abbrev pub Laid : List ℕ → List ℕ → List ℕ → List ℕ → Plan → ℕ → List ℕ → List ℕ → Type 0
 Laid src tree st b p n st' b' = Handed st (run_result src tree st b p) n st' b'
 
-abbrev pub LaidAs : Loan → Loan → Loan → Loan → Wanted → ℕ → Type 0
+abbrev pub LaidAs : Loan → Loan → MutLoan → MutLoan → Wanted → ℕ → Type 0
 LaidAs source tree state out w n =
     let src = source.entry.now in let list = tree.entry.now in
     Laid src list state.entry.now out.entry.now (plan_of (script_in src list) w) n state.exit.now out.exit.now
 
-abbrev pub LaidOn : Loan → Loan → Loan → Loan → ℕ → ℕ → Type 0
+abbrev pub LaidOn : Loan → Loan → MutLoan → MutLoan → ℕ → ℕ → Type 0
 LaidOn source tree state out k n =
     let src = source.entry.now in let list = tree.entry.now in
     Laid src list state.entry.now out.entry.now (layout_of src list k) n state.exit.now out.exit.now
 
-abbrev pub WholeOn : Loan → Loan → Loan → Loan → ℕ → Type 0
+abbrev pub WholeOn : Loan → Loan → MutLoan → MutLoan → ℕ → Type 0
 WholeOn source tree state out n =
     let src = source.entry.now in let list = tree.entry.now in
     Laid src list state.entry.now out.entry.now (whole_of src list) n state.exit.now out.exit.now

@@ -11,7 +11,7 @@ use Rattle.meaning.specs.declared.call.Literal.{Literal}
 use Rattle.meaning.specs.declared.call.Literal.TheVariants as literal
 use Rattle.meaning.specs.State.{Script}
 use Rattle.meaning.specs.Plan.{Plan, nothing, make, ◌then◌}
-use Rattle.lent.specs.Loans.{Loan, script, Engine, before, after, Makes, Made, Refuses}
+use Rattle.lent.specs.Loans.{Loan, MutLoan, script, Engine, before, after, Makes, Made, Refuses}
 use Rattle.steps.specs.declared.remaining.Mark.{Mark}
 use Rattle.steps.specs.declared.remaining.Mark.TheVariants.{Comma, SemiColon, Colon, CloseBrace}
 use Rattle.steps.specs.declared.remaining.Remaining as code
@@ -107,7 +107,7 @@ pub record Rests (rs : List Record) (m : Mark) (s : Stream) (w w' : List ℕ) (r
   pub token : r ≡ (remaining rs m s).token
   pub rest : s' ≡ (remaining rs m s).rest
 
-abbrev pub Rested : Loan → Loan → Loan → Mark → code.Remaining → Type 0
+abbrev pub Rested : Loan → MutLoan → MutLoan → Mark → code.Remaining → Type 0
 Rested table fmt p m r = Rests (tree table) m (stream_in table p) fmt.entry.now fmt.exit.now (remaining_of m r) (stream_out table p)
 
 -- and something was done behind it
@@ -116,7 +116,7 @@ pub record RestsWith (x : Script) (rs : List Record) (m : Mark) (g : Remaining �
   pub token : r ≡ (remaining rs m s).token
   pub rest : s' ≡ (remaining rs m s).rest
 
-abbrev pub RestedWith : Loan → Loan → Loan → Loan → Loan → Loan → Mark → (Remaining → Plan) → code.Remaining → Type 0
+abbrev pub RestedWith : Loan → Loan → MutLoan → MutLoan → MutLoan → MutLoan → Mark → (Remaining → Plan) → code.Remaining → Type 0
 RestedWith src table fmt queue out p m g r =
     RestsWith (script src table) (tree table) m g (stream_in table p) (before fmt queue out) (after fmt queue out) (remaining_of m r) (stream_out table p)
 
@@ -124,5 +124,5 @@ RestedWith src table fmt queue out p m g r =
 abbrev pub Tells : (Remaining → Bool) → code.Remaining → Bool → Type 0
 Tells f r t = (m : Mark) → t ≡ f (remaining_of m r)
 
-abbrev pub MadeOf : Loan → Loan → Loan → Loan → Loan → (Remaining → Plan) → code.Remaining → Type 0
+abbrev pub MadeOf : Loan → Loan → MutLoan → MutLoan → MutLoan → (Remaining → Plan) → code.Remaining → Type 0
 MadeOf src table fmt queue out g r = (m : Mark) → Made src table fmt queue out (g (remaining_of m r))

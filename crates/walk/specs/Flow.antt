@@ -11,7 +11,7 @@ use Rattle.meaning.specs.declared.call.Call.TheVariants.{WriteOwned, Ignore, Ws}
 use Rattle.meaning.specs.declared.answer.Refusal.TheVariants.{WrongKind}
 use Rattle.meaning.specs.State.{Script}
 use Rattle.meaning.specs.Plan.{Plan, nothing, make, refuse, ◌then◌}
-use Rattle.lent.specs.Loans.{Loan, script, Engine, before, after, Makes, Refuses}
+use Rattle.lent.specs.Loans.{Loan, MutLoan, script, Engine, before, after, Makes, Refuses}
 use Rattle.walk.specs.Stream.{Stream, records_of, no, is_byte, next_is, met, Took, take_if, take_any, Ate, tree, stream_in, stream_out}
 
 pub record Flow (S : Type 0) : Type 0 where
@@ -111,7 +111,7 @@ pub record Goes {S T : Type 0} (x : Script) (f : S → Flow T) (s : S) (e e' : E
   pub at : s' ≡ (f s).rest
 
 -- over what is lent: the step's calls are made, and the stream p stands behind it
-abbrev pub Walked : Loan → Loan → Loan → Loan → Loan → Loan → (Stream → Flow Stream) → Type 0
+abbrev pub Walked : Loan → Loan → MutLoan → MutLoan → MutLoan → MutLoan → (Stream → Flow Stream) → Type 0
 Walked src table fmt queue out p f = Goes (script src table) f (stream_in table p) (before fmt queue out) (after fmt queue out) (stream_out table p)
 
 -- a record is taken as t says; none is refusal 8
@@ -119,8 +119,8 @@ pub record Got (t : Took) (s : Stream) (w w' : List ℕ) (k : RecordNo) (s' : St
   pub ran : Refuses (on_found t.found (λ k. nothing) (not_met s)) w w'
   pub ate : Ate t k s'
 
-abbrev pub Pumped : Loan → Loan → Loan → RecordNo → Type 0
+abbrev pub Pumped : Loan → MutLoan → MutLoan → RecordNo → Type 0
 Pumped table fmt p k = Got (take_any (stream_in table p)) (stream_in table p) fmt.entry.now fmt.exit.now k (stream_out table p)
 
-abbrev pub Expected : Loan → Loan → Loan → ℕ → RecordNo → Type 0
+abbrev pub Expected : Loan → MutLoan → MutLoan → ℕ → RecordNo → Type 0
 Expected table fmt p kind k = Got (take_if (is_byte (tree table) kind) (stream_in table p)) (stream_in table p) fmt.entry.now fmt.exit.now k (stream_out table p)

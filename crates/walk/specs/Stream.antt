@@ -6,7 +6,7 @@ use Rattle.tree.specs.declared.cursor.Found.{Found}
 use Rattle.tree.specs.declared.cursor.Found.TheVariants.{At, None}
 use Rattle.tree.specs.Table.{node_of, tree_of}
 use Rattle.tree.specs.Cursor.{found_of, shown, kept, behind, cursor_of, children_of, head_of}
-use Rattle.lent.specs.Loans.{Loan}
+use Rattle.lent.specs.Loans.{Loan, MutLoan}
 
 pub record Stream : Type 0 where
   pub node : RecordNo
@@ -95,8 +95,8 @@ pub record Ate (t : Took) (k : RecordNo) (s' : Stream) : Type 0 where
   pub found : found_of k ≡ t.found
   pub rest : s' ≡ t.rest
 
-abbrev pub stream_in : Loan → Loan → Stream
+abbrev pub stream_in : Loan → MutLoan → Stream
 stream_in table p = stream_at (tree table) p.entry.now
 
-abbrev pub stream_out : Loan → Loan → Stream
+abbrev pub stream_out : Loan → MutLoan → Stream
 stream_out table p = stream_at (tree table) p.exit.now
