@@ -32,7 +32,7 @@ pub record LetsOut (src : List ℕ) (w : Way) (q : List ℕ) (run : Run) (b : Li
   pub out : result_of r q b' ≡ onward (λ cap s. settles cap s (release_of src w s) (λ s'. s')) (result_of run q b)
   pub stays : is_refused r.answer ≡ true → r ≡ answered run r.answer
 
-abbrev pub Released : Loan → MutLoan → MutLoan → MutLoan → Way → Type 0
+abbrev pub Released : Loan → MutLoan → Loan → MutLoan → Way → Type 0
 Released src fmt queue out w =
     LetsOut src.entry.now w queue.entry.now (run_of fmt.entry.now) out.entry.now (run_of fmt.exit.now) out.exit.now
 

@@ -1,0 +1,25 @@
+-- `width::place::place_of` meets its contract. The invariant: from here on the place is found where it is from the beginning on. Assumes nothing.
+use Rattle.text.proofs.Base.{◌-◌, arith, inl, inr}
+use Rattle.width.proofs.PlaceLaws.{seek_dark, seek_end, seek_here, seek_on, seek_starts, seek_white, seek_within}
+use Rattle.width.proofs.place.place_of.Goals as goal
+
+pub loop-i-init : goal.loop-i-init
+loop-i-init c = seek_starts _ _
+
+pub char_at-c-requires : goal.char_at-c-requires
+char_at-c-requires c = c.loop-i-test.true
+
+pub returns-then-left-eq0 : goal.returns-then-left-eq0
+returns-then-left-eq0 c = seek_here c.loop-i.invariant c.loop-i-test.true c.char_at-c.ensures c.is_white.ensures c.if-not-is_white.true c.if-left-eq0.true
+
+pub overflow_add-i : goal.overflow_add-i
+overflow_add-i c = omega (arith, seek_within c.loop-i.invariant c.loop-i-test.true c.char_at-c.ensures c.is_white.ensures)
+
+pub loop-i-smaller : goal.loop-i-smaller
+loop-i-smaller c = omega (arith, seek_on c.loop-i.invariant c.loop-i-test.true c.char_at-c.ensures c.is_white.ensures, c.loop-i-test.true)
+
+pub loop-i-preserved : goal.loop-i-preserved
+loop-i-preserved c = let next = seek_dark c.loop-i.invariant c.loop-i-test.true c.char_at-c.ensures c.is_white.ensures in elim c.if-not-is_white.branch [ inl z ↦ rw z.2 (next z.0.taken z.1.left) | inr z ↦ rw z.1 (seek_white c.loop-i.invariant c.loop-i-test.true c.char_at-c.ensures c.is_white.ensures z.0.left) ]
+
+pub returns : goal.returns
+returns c = seek_end c.loop-i.invariant c.loop-i-test.false
