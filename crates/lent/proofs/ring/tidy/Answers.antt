@@ -11,13 +11,12 @@ pub store-requires : goal.store-requires
 store-requires c = omega (arith, c.loop-i-test.true, c.loop-i.invariant.1)
 
 pub loop-i-preserved : goal.loop-i-preserved
-loop-i-preserved c =
-    (
-      c.loop-i.invariant.0,
-      c.loop-i.invariant.1,
-      slots.fill_turn c.loop-i-test.true c.loop-i.invariant.1 refl
-          c.comment_at-c.ensures c.store.ensures c.loop-i.invariant.2,
-    )
+loop-i-preserved c = (
+  c.loop-i.invariant.0,
+  c.loop-i.invariant.1,
+  slots.fill_turn c.loop-i-test.true c.loop-i.invariant.1 refl
+      c.comment_at-c.ensures c.store.ensures c.loop-i.invariant.2,
+)
 
 pub returns : goal.returns
 returns c = slots.fill_end c.args.count c.loop-i.invariant.0 c.loop-i-test.false c.loop-i.invariant.2
