@@ -2,6 +2,7 @@
 use crate::lending::replayed;
 use entry::state::State;
 use meaning::answer::{Answer, number, place};
+use std::io;
 
 // Where the file goes on, and the engine's state.
 #[derive(Clone, Copy)]
@@ -11,17 +12,22 @@ struct Next {
 }
 
 // Says of a refusal its number and its place.
-pub fn refused(answer: Answer) {
-    io::write_all(1, b"refusal ");
-    io::print_decimal(1, number(answer) as u64);
-    io::write_all(1, b", place ");
-    io::print_decimal(1, place(answer) as u64);
-    io::write_all(1, b"\n");
+pub fn refused(to: &impl Print, answer: Answer) -> io::Result<()> {
+    let number = number(answer);
+    let place = place(answer);
+    println!(to; "refusal {number}, place {place}")
 }
 
-fn one(source: &[u8], tree: &[u8], out: &mut [u8], file: &[u8], n: Next) -> Next {
+fn one(
+    to: &impl Print,
+    source: &[u8],
+    tree: &[u8],
+    out: &mut [u8],
+    file: &[u8],
+    n: Next,
+) -> io::Result<Next> {
     if file.len() <= n.at {
-        return n;
+        return Ok(n);
     }
     let len = packed::byte(file, n.at) as usize;
     let from = packed::plus(n.at, 1);
@@ -29,27 +35,41 @@ fn one(source: &[u8], tree: &[u8], out: &mut [u8], file: &[u8], n: Next) -> Next
     let z = replayed(source, tree, out, state, packed::slice(file, from, len));
     let answer = z.answer;
     if number(answer) != 0 {
-        refused(answer);
+        refused(to, answer)?;
     }
     let state = z.state;
-    Next {
+    Ok(Next {
         at: packed::plus(from, len),
         state,
-    }
+    })
 }
 
 // No file has more calls than bytes.
-fn all(source: &[u8], tree: &[u8], out: &mut [u8], file: &[u8], first: Next) -> Next {
+fn all(
+    to: &impl Print,
+    source: &[u8],
+    tree: &[u8],
+    out: &mut [u8],
+    file: &[u8],
+    first: Next,
+) -> io::Result<Next> {
     let mut n = first;
     for _ in 0..file.len() {
-        n = one(source, tree, out, file, n);
+        n = one(to, source, tree, out, file, n)?;
     }
-    n
+    Ok(n)
 }
 
-pub fn replay(source: &[u8], tree: &[u8], out: &mut [u8], state: State, file: &[u8]) {
-    let n = all(source, tree, out, file, Next { at: 0, state });
+pub fn replay(
+    to: &impl Print,
+    source: &[u8],
+    tree: &[u8],
+    out: &mut [u8],
+    state: State,
+    file: &[u8],
+) -> io::Result<()> {
+    let n = all(to, source, tree, out, file, Next { at: 0, state })?;
     let left = n.state;
-    io::write_all(1, packed::front(out, left.now.len));
-    io::write_all(1, b"\n");
+    to.write_all(packed::front(out, left.now.len))?;
+    println!(to;)
 }

@@ -1,5 +1,4 @@
-// What the program asks of a reader and of a lent engine: each makes one, lends it, and hands back what was left. Their parameters are plain, so
-// whoever calls them needs no walk.
+// What the program asks of a reader and of a lent engine: each makes one, lends it, and hands back what was left.
 ghost use Rattle.std.specs.Prelude.{◌≡◌};
 ghost use Rattle.tree.specs.Table.{tree_of};
 ghost use Rattle.tree.specs.Cursor.{child_of};

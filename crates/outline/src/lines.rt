@@ -1,14 +1,11 @@
 // The outline: a line for each record.
 use crate::lending::passed;
+use std::io;
 use text::lines::count_newlines;
 use text::span::part;
 use tree::cursor::{Cursor, Found};
 use tree::record::{Record, RecordNo};
 use tree::table::{node, size};
-
-fn say(text: &[u8]) {
-    io::write_all(1, text);
-}
 
 // A text up to its first newline.
 fn first_line(s: &[u8]) -> &[u8] {
@@ -29,20 +26,16 @@ fn width(depth: usize) -> usize {
     if depth < 64 { depth * 2 } else { 128 }
 }
 
-fn line(source: &[u8], r: Record, depth: usize) {
+fn line(to: &impl Print, source: &[u8], r: Record, depth: usize) -> io::Result<()> {
     let spaces = [0x20u8; 128];
+    let kind = r.kind;
     let start = r.span.start;
-    io::print_hex(1, r.kind as u64, 2);
-    say(b" ");
-    io::print_decimal(
-        1,
-        line_of(count_newlines(packed::front(source, start.0 as usize))),
-    );
-    say(b" ");
-    say(packed::front(&spaces, width(depth)));
+    let number = line_of(count_newlines(packed::front(source, start.0 as usize)));
+    print!(to; "{kind:02x} {number} ")?;
+    to.write_all(packed::front(&spaces, width(depth)))?;
     let span = r.span;
-    say(packed::front(first_line(part(source, span)), 40));
-    say(b"\n");
+    to.write_all(packed::front(first_line(part(source, span)), 40))?;
+    println!(to;)
 }
 
 // How many records stand around record k: `ends` has the record behind each, the outermost first, and behind those of k what has ended.
@@ -57,7 +50,13 @@ fn depth_of(ends: &[u32; 64], k: RecordNo) -> usize {
 }
 
 // The line of the record that a reader at this place passes over.
-fn show(source: &[u8], table: &[u32], ends: &mut [u32; 64], k: RecordNo) {
+fn show(
+    to: &impl Print,
+    source: &[u8],
+    table: &[u32],
+    ends: &mut [u32; 64],
+    k: RecordNo,
+) -> io::Result<()> {
     let c = Cursor {
         at: k,
         end: size(table),
@@ -71,15 +70,16 @@ fn show(source: &[u8], table: &[u32], ends: &mut [u32; 64], k: RecordNo) {
             if d < 64 {
                 ends[d] = rest.at.0;
             }
-            line(source, node(table, j), d);
+            line(to, source, node(table, j), d)
         }
-        Found::None => {}
+        Found::None => Ok(()),
     }
 }
 
-pub fn outline(source: &[u8], table: &[u32], n: RecordNo) {
+pub fn outline(to: &impl Print, source: &[u8], table: &[u32], n: RecordNo) -> io::Result<()> {
     let mut ends = [0u32; 64];
     for i in 0..n.0 {
-        show(source, table, &mut ends, RecordNo(i));
+        show(to, source, table, &mut ends, RecordNo(i))?;
     }
+    Ok(())
 }

@@ -11,41 +11,43 @@ mod lending;
 mod lines;
 
 use meaning::answer::number;
-use telling::files::read;
+use std::io;
+use telling::files::{count, read};
 use tree::table::{decode, first};
 
 // The outline and the layout of an opened script; else why it is refused.
-fn show(source: &[u8], tree: &[u8], file: &[u8]) {
+fn show(to: &impl Print, source: &[u8], tree: &[u8], file: &[u8]) -> io::Result<()> {
     let opened = entry::engine::open(source, tree);
     let answer = opened.answer;
     if number(answer) != 0 {
-        call_list::refused(answer);
-        return;
+        return call_list::refused(to, answer);
     }
     let mut words = [0u32; 32768];
     let n = decode(tree, &mut words);
-    lines::outline(source, first(&words, n), n);
+    lines::outline(to, source, first(&words, n), n)?;
     let mut out = [0u8; 65536];
     let state = opened.state;
-    call_list::replay(source, tree, &mut out, state, file);
+    call_list::replay(to, source, tree, &mut out, state, file)
 }
 
-fn main() {
-    if os::arg_count() != 4 {
-        io::write_all(1, b"usage: outline SCRIPT TREE CALLS\n");
-        return;
+fn main(rt: HostRuntime) -> io::Result<()> {
+    if count(&rt) != 4 {
+        return println!(rt; "usage: outline SCRIPT TREE CALLS");
     }
+    let err = rt.stderr();
     let mut script = [0u8; 65600];
     let mut list = [0u8; 131072];
     let mut file = [0u8; 65536];
-    let s = read(1, &mut script);
-    let t = read(2, &mut list);
-    let c = read(3, &mut file);
+    let s = read(&rt, &err, 1, &mut script)?;
+    let t = read(&rt, &err, 2, &mut list)?;
+    let c = read(&rt, &err, 3, &mut file)?;
     if s.found && t.found && c.found {
         show(
+            &rt,
             packed::front(&script, s.len),
             packed::front(&list, t.len),
             packed::front(&file, c.len),
-        );
+        )?;
     }
+    Ok(())
 }
