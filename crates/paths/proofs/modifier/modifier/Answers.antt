@@ -15,4 +15,4 @@ pub returns-in-133 : goal.returns-in-133
 returns-in-133 c = as_word _ _ _ c.kind_at-kind.ensures c.in-133.if-kind-lt133-own.false c.in-133.if-kind-lt136-own.true c.modifier_word.ensures
 
 pub returns-in_default : goal.returns-in_default
-returns-in_default c = as_other _ _ _ c.kind_at-kind.ensures (elim c.in_default.branch [ in_default-via-then-kind-lt133 z ↦ inl z.if-kind-lt133.true | in_default-via-else-kind-lt133+else-kind-lt136 z ↦ inr z.if-kind-lt136.false ]) c.in_default-1.rest.0.1 c.in_default-1.rest.1 (c.apart.ensures ▹ c.write_owned.ensures)
+returns-in_default c = as_other _ _ _ c.kind_at-kind.ensures (elim c.in_default.branch [ in_default-via-then-kind-lt133 z ↦ inl z.if-kind-lt133-1.true | in_default-via-else-kind-lt133+else-kind-lt136 z ↦ inr z.if-kind-lt136-1.false ]) c.in_default-1.rest.0.1 c.in_default-1.rest.1 (c.apart.ensures ▹ c.write_owned.ensures)
