@@ -9,16 +9,15 @@ pub loop-i-init : goal.loop-i-init
 loop-i-init c = (search rules, ap (any_outside c.args.src.now) (tab_all _ _ _))
 
 pub loop-i-preserved : goal.loop-i-preserved
-loop-i-preserved c =
-    (
-      omega arith,
-      sym
-          (outside_more _ _ _ _
-          (ring_next c.args.queue.now c.args.head c.args.count c.loop-i.i _ c.loop-i-test.true
-          c.comment_at-c.ensures)
-          (sym c.in_source.ensures ∙ c.if-in_source.true))
-          ∙ c.loop-i.invariant.1,
-    )
+loop-i-preserved c = (
+  omega arith,
+  sym
+      (outside_more _ _ _ _
+      (ring_next c.args.queue.now c.args.head c.args.count c.loop-i.i _ c.loop-i-test.true
+      c.comment_at-c.ensures)
+      (sym c.in_source.ensures ∙ c.if-in_source.true))
+      ∙ c.loop-i.invariant.1,
+)
 
 pub returns-else-in_source : goal.returns-else-in_source
 returns-else-in_source c =

@@ -9,24 +9,22 @@ pub loop-i-init : goal.loop-i-init
 loop-i-init c = (c.size-end.ensures, refl, c.head-first.ensures, rw c.count-n.ensures gather_start)
 
 pub loop-i-preserved-in-Inner : goal.loop-i-preserved-in-Inner
-loop-i-preserved-in-Inner c =
-    (
-      c.loop-i.invariant.0,
-      c.loop-i.invariant.1,
-      c.loop-i.invariant.2,
-      gather_inner c.loop-i.invariant.3 c.node-r.result c.met_at-e.result (omega (arith, c.loop-i.invariant.0)) c.node-r.ensures c.met_at-e.ensures
-          (ap (as_met c.node-r.result.span) c.in-Inner.is),
-    )
+loop-i-preserved-in-Inner c = (
+  c.loop-i.invariant.0,
+  c.loop-i.invariant.1,
+  c.loop-i.invariant.2,
+  gather_inner c.loop-i.invariant.3 c.node-r.result c.met_at-e.result (omega (arith, c.loop-i.invariant.0)) c.node-r.ensures c.met_at-e.ensures
+      (ap (as_met c.node-r.result.span) c.in-Inner.is),
+)
 
 pub loop-i-preserved-in-Blank : goal.loop-i-preserved-in-Blank
-loop-i-preserved-in-Blank c =
-    (
-      c.loop-i.invariant.0,
-      c.loop-i.invariant.1,
-      c.loop-i.invariant.2,
-      gather_blank c.loop-i.invariant.3 c.node-r.result c.met_at-e.result (omega (arith, c.loop-i.invariant.0)) c.node-r.ensures c.met_at-e.ensures
-          _ _ (ap (as_met c.node-r.result.span) c.in-Blank.is) c.or_else-lines.ensures,
-    )
+loop-i-preserved-in-Blank c = (
+  c.loop-i.invariant.0,
+  c.loop-i.invariant.1,
+  c.loop-i.invariant.2,
+  gather_blank c.loop-i.invariant.3 c.node-r.result c.met_at-e.result (omega (arith, c.loop-i.invariant.0)) c.node-r.ensures c.met_at-e.ensures
+      _ _ (ap (as_met c.node-r.result.span) c.in-Blank.is) c.or_else-lines.ensures,
+)
 
 pub returns-then-n-ge256 : goal.returns-then-n-ge256
 returns-then-n-ge256 c =
@@ -34,14 +32,13 @@ returns-then-n-ge256 c =
     (gather_full c.loop-i.invariant.3 c.node-r.result c.met_at-e.result (omega (arith, c.loop-i.invariant.0)) c.node-r.ensures c.met_at-e.ensures _ (ap (as_met c.node-r.result.span) c.in-Remark.is) c.if-n-ge256.true refl)
 
 pub loop-i-preserved : goal.loop-i-preserved
-loop-i-preserved c =
-    (
-      c.loop-i.invariant.0,
-      c.loop-i.invariant.1,
-      c.loop-i.invariant.2,
-      gather_note c.loop-i.invariant.3 c.node-r.result c.met_at-e.result (omega (arith, c.loop-i.invariant.0)) c.node-r.ensures c.met_at-e.ensures
-          _ _ (ap (as_met c.node-r.result.span) c.in-Remark.is) c.if-n-ge256.false (rw c.loop-i.invariant.2 at c.push.ensures),
-    )
+loop-i-preserved c = (
+  c.loop-i.invariant.0,
+  c.loop-i.invariant.1,
+  c.loop-i.invariant.2,
+  gather_note c.loop-i.invariant.3 c.node-r.result c.met_at-e.result (omega (arith, c.loop-i.invariant.0)) c.node-r.ensures c.met_at-e.ensures
+      _ _ (ap (as_met c.node-r.result.span) c.in-Remark.is) c.if-n-ge256.false (rw c.loop-i.invariant.2 at c.push.ensures),
+)
 
 pub returns-in-Stop : goal.returns-in-Stop
 returns-in-Stop c =

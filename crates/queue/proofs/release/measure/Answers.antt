@@ -31,12 +31,11 @@ pub overflow_add-len-in-loop-i-2 : goal.overflow_add-len-in-loop-i-2
 overflow_add-len-in-loop-i-2 c = omega (arith, c.passes.ensures.1 c.if-passes.false)
 
 pub loop-i-preserved : goal.loop-i-preserved
-loop-i-preserved c =
-    (
-      omega arith,
-      measure_turn _ _ _ (ring_next c.args.queue.now c.args.head c.args.count c.loop-i.i _ c.loop-i-test.true c.comment_at-c.ensures)
-          (sym c.stops.ensures ∙ c.if-stops.false) (put_of _ _ _ c.gap_before-gap.result c.gap_before-gap.ensures c.letters-t.ensures) (c.passes.ensures.1 c.if-passes.false) c.loop-i.invariant.1,
-    )
+loop-i-preserved c = (
+  omega arith,
+  measure_turn _ _ _ (ring_next c.args.queue.now c.args.head c.args.count c.loop-i.i _ c.loop-i-test.true c.comment_at-c.ensures)
+      (sym c.stops.ensures ∙ c.if-stops.false) (put_of _ _ _ c.gap_before-gap.result c.gap_before-gap.ensures c.letters-t.ensures) (c.passes.ensures.1 c.if-passes.false) c.loop-i.invariant.1,
+)
 
 pub returns : goal.returns
 returns c = measure_end _ _ _ (tab_none _ c.args.head c.args.count c.loop-i.i c.loop-i-test.false) c.loop-i.invariant.1

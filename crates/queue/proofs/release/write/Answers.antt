@@ -13,13 +13,12 @@ lay-len-requires c =
     (put_of _ _ _ c.gap_before-gap.result c.gap_before-gap.ensures c.letters-t.ensures) c.loop-i.invariant.1
 
 pub loop-i-preserved : goal.loop-i-preserved
-loop-i-preserved c =
-    (
-      omega arith,
-      rw c.lay-len.ensures.end (write_turn _ _ _
-          (ring_next c.args.queue.now c.args.head c.args.n c.loop-i.i _ c.loop-i-test.true c.comment_at-c.ensures)
-          (put_of _ _ _ c.gap_before-gap.result c.gap_before-gap.ensures c.letters-t.ensures) c.loop-i.invariant.1 c.lay-len.ensures.bytes),
-    )
+loop-i-preserved c = (
+  omega arith,
+  rw c.lay-len.ensures.end (write_turn _ _ _
+      (ring_next c.args.queue.now c.args.head c.args.n c.loop-i.i _ c.loop-i-test.true c.comment_at-c.ensures)
+      (put_of _ _ _ c.gap_before-gap.result c.gap_before-gap.ensures c.letters-t.ensures) c.loop-i.invariant.1 c.lay-len.ensures.bytes),
+)
 
 pub shape_of-out : goal.shape_of-out
 shape_of-out c = c.loop-i.invariant.1.long

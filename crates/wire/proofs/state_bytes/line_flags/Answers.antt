@@ -10,13 +10,12 @@ pub loop-k-init : goal.loop-k-init
 loop-k-init c = (search rules, flags_all _ _)
 
 pub loop-k-preserved : goal.loop-k-preserved
-loop-k-preserved c =
-    (
-      omega arith,
-      flags_more c.args.state.now c.args.n c.loop-k.k c.loop-k-test.true
-          (sym c.is_flag.ensures ∙ c.if-is_flag.true)
-          ∙ c.loop-k.invariant.1,
-    )
+loop-k-preserved c = (
+  omega arith,
+  flags_more c.args.state.now c.args.n c.loop-k.k c.loop-k-test.true
+      (sym c.is_flag.ensures ∙ c.if-is_flag.true)
+      ∙ c.loop-k.invariant.1,
+)
 
 pub returns-else-is_flag : goal.returns-else-is_flag
 returns-else-is_flag c =
