@@ -1,4 +1,4 @@
-//! Links the two static libraries: from target/staticlib, or where BENCH_LIB and
+//! Links the two static libraries: from target/native, or where BENCH_LIB and
 //! SAVETNUOK_LIB say.
 use std::env;
 use std::path::Path;
@@ -6,7 +6,7 @@ use std::path::Path;
 fn main() {
     for (name, variable) in [("bench", "BENCH_LIB"), ("savetnuok", "SAVETNUOK_LIB")] {
         println!("cargo:rerun-if-env-changed={variable}");
-        let usual = format!("../../target/staticlib/lib{name}.a");
+        let usual = format!("../../target/native/lib{name}.a");
         let file = env::var(variable).unwrap_or(usual);
         println!("cargo:rerun-if-changed={file}");
         let file = Path::new(&file)

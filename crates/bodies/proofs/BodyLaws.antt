@@ -8,7 +8,7 @@ use Rattle.bodies.specs.Body.{lined, lines, line_end}
 -- an item on a line of its own takes a record
 pub lines_take : (rs : List Record) (want : ℕ → Bool) (rule : RecordNo → Plan) → Each want (lined rs rule)
 unfolding lined
-lines_take rs want rule = record { takes = λ any. plain_takes (make (Nl 1) then make (Comments Line)) (pump_takes want rule takes-then put_leaves rs Comma) }
+lines_take rs want rule = record { takes = λ any. plain_takes (make (Nl 1) then make (Comments Line)) (pump_takes want rule takes_then put_leaves rs Comma) }
 
 pub one_line : {x : Script} (rs : List Record) (rule : RecordNo → Plan) (any : Bool) {s s' s'' : Stream} {e e' e'' e''' : Engine} → Makes x (make (Nl 1) then make (Comments Line)) e e' → Goes x (pump rule) s e' e'' s' → Goes x (put_remaining rs Comma) s' e'' e''' s'' → Goes x (lined rs rule any) s e e''' s''
 unfolding lined

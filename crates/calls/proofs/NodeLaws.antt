@@ -187,9 +187,9 @@ module _ (x : Script) {run : Run} {q : List ℕ} (b : List ℕ) {g : Run} {q' : 
     back h = rw (e.stays h, d.rest going)
 
     pub prefix_past : {o : Run} {n : ℕ} → is_refused r.answer ≡ true → n ≡ run.count → o ≡ collected_run r l n → Acted x FlushPrefixComments run q b o q' b'
-    prefix_past h en eo = record {
+    prefix_past {n = n} h en eo = record {
       out =
-          rw (eo, el, en, back h) (ap (λ (s : State). result r.answer (world s b')) (waiting run q q' c.kept))
+          rw (eo ∙ ap (λ (k : ℕ). collected_run r k n) el ∙ ap (collected_run r run.lines) en ∙ back h) (ap (λ (s : State). result r.answer (world s b')) (waiting run q q' c.kept))
           ∙ past_at 0 (view run q) (view g q') (line_release x.source false (view g q')).state b (line_release x.source false (view g q')).out r q' b' c.long (ltb (length b) (line_release x.source false (view g q')).state.len) let_out h
           ∙ then_release;
     }

@@ -21,7 +21,7 @@ comma_of {x} lay rule want {s} {u = u} q h g b y =
 module _ (x : Script) (lay : Below) where
   comma_takes : (rule : RecordNo → Plan) (want : ℕ → Bool) → Takes want (with_comma x lay rule)
   unfolding with_comma
-  comma_takes rule want = record { less = λ s h. (pump_takes want rule takes-then comma_leaves x.tree (next_is (λ (k : ℕ). is_block_arm x.tree (no k)) s)).less s h }
+  comma_takes rule want = record { less = λ s h. (pump_takes want rule takes_then comma_leaves x.tree (next_is (λ (k : ℕ). is_block_arm x.tree (no k)) s)).less s h }
 
   pub arms_fall : Falls (λ (s : Stream). s) (is x.tree Kind.ExprSelectArm) (with_comma x lay (select_arm x lay))
   arms_fall = taking_falls (comma_takes (select_arm x lay) (is x.tree Kind.ExprSelectArm))

@@ -88,4 +88,4 @@ module _ {x : Script} (lay : Below) {n : ℕ} {s s' : Stream} {e e' : Engine} wh
 -- ---- operands
 
 pub operands_fall : (rs : List Record) (f : RecordNo → Plan) → Falls (λ (s : Stream). s) (is rs Kind.ExprOperator) (between rs (byte_of Kind.ExprOperator) ▸ pump f)
-operands_fall rs f = taking_falls (between_takes rs (byte_of Kind.ExprOperator) takes-then pump_leaves f)
+operands_fall rs f = taking_falls (between_takes rs (byte_of Kind.ExprOperator) takes_then pump_leaves f)

@@ -4,4 +4,3 @@ mod ListLaws
 mod ArmLaws
 mod ChainLaws
 mod StmtLaws
-mod Ranks

@@ -20,18 +20,18 @@ use Rattle.exprs.specs.List.{loose_entry, loose, compact, exprs, pair, keyed, ro
 
 module _ (x : Script) (lay : Below) where
   pub loose_falls : Falls (λ (s : Stream). s) (is_expr x.tree) (pump (loose_entry x lay) ▸ end_entry x.tree)
-  loose_falls = taking_falls (pump_takes (is_expr x.tree) (loose_entry x lay) takes-then entry_leaves x.tree)
+  loose_falls = taking_falls (pump_takes (is_expr x.tree) (loose_entry x lay) takes_then entry_leaves x.tree)
 
   pair_leaves : Leaves (pair x lay)
   unfolding pair
-  pair_leaves = next_leaves (is x.tree Kind.Colon) (pump_leaves write leaves-then plain_leaves (make Ws) leaves-then pump_leaves (lay Rule.Expr)) (plain_leaves nothing)
+  pair_leaves = next_leaves (is x.tree Kind.Colon) (pump_leaves write leaves_then plain_leaves (make Ws) leaves_then pump_leaves (lay Rule.Expr)) (plain_leaves nothing)
 
   pub rows_fall : Falls (λ (s : Stream). s) (is x.tree Kind.ObjectKey) (key_line ▸ pair x lay ▸ end_entry x.tree)
-  rows_fall = taking_falls (key_takes (is x.tree Kind.ObjectKey) takes-then pair_leaves leaves-then entry_leaves x.tree)
+  rows_fall = taking_falls (key_takes (is x.tree Kind.ObjectKey) takes_then pair_leaves leaves_then entry_leaves x.tree)
 
   pub row_falls : Falls (λ (s : Place). s.rest) (is x.tree Kind.ObjectKey) (turn x.tree (keyed x lay) silent)
   unfolding keyed
-  row_falls = turn_falls x.tree silent (λ c. next_takes (is x.tree Kind.ObjectKey) c takes-then pair_leaves)
+  row_falls = turn_falls x.tree silent (λ c. next_takes (is x.tree Kind.ObjectKey) c takes_then pair_leaves)
 
 -- ---- the reason
 

@@ -22,7 +22,7 @@ module _ (x : Script) (lay : Below) where
 
   stmts_fall : Falls (λ (s : Said). s.rest) (λ (k : ℕ). true) (another x lay)
   unfolding another
-  stmts_fall = record { less = λ s h. (pump_takes (λ (k : ℕ). true) (statement x lay s.last) takes-then semi_leaves x.tree (kind_in x lay s.rest.left)).less s.rest h }
+  stmts_fall = record { less = λ s h. (pump_takes (λ (k : ℕ). true) (statement x lay s.last) takes_then semi_leaves x.tree (kind_in x lay s.rest.left)).less s.rest h }
 
   module _ {s s₁ s' : Stream} {w w' : List ℕ} {k : RecordNo} (last : ℕ) {kind : ℕ} {t : Bool} {e e' : Engine} (q : t ≡ next_is (λ (k : ℕ). true) s) (h : t ≡ true) (g : Got (take_any s) s w w' k s₁) (r : kind ≡ (node_of x.tree k.0).kind) (y : Goes x (pump (statement x lay last) ▸ semicolon x.tree kind) s e e' s') where
     one_more : Goes x (another x lay) (said s last) e e' (said s' kind)

@@ -22,7 +22,7 @@ use walk::tokens::token;
 
 impl Lay {
     // A select without a brace gets both.
-    #[cycle(arm_binary_block_body_chain_cond_decl_else__expr_exprs_flow_group_guard_if__inner_item_lead_let__link_loops_loose_match__object_pair_range_rows_select_stmt_stmts_tail_tuple)]
+    #[cycle(lay)]
     pub fn select(
         src: &[u8],
         table: &[u32],
@@ -53,7 +53,7 @@ impl Lay {
     }
 
     // An arm: in a select `default` or a pattern, then a value or none; in a match a pattern, then a guard or none; `=>` and its body.
-    #[cycle(arm_binary_block_body_chain_cond_decl_else__expr_exprs_flow_group_guard_if__inner_item_lead_let__link_loops_loose_match__object_pair_range_rows_select_stmt_stmts_tail_tuple)]
+    #[cycle(lay)]
     pub fn arm(
         src: &[u8],
         table: &[u32],
@@ -81,7 +81,7 @@ impl Lay {
     }
 
     // What may stand in front of `=>`: the value of a select arm behind its `=`, the guard of a match arm behind its `if`.
-    #[cycle(arm_binary_block_body_chain_cond_decl_else__expr_exprs_flow_group_guard_if__inner_item_lead_let__link_loops_loose_match__object_pair_range_rows_select_stmt_stmts_tail_tuple)]
+    #[cycle(lay)]
     pub fn guard(
         src: &[u8],
         table: &[u32],
@@ -102,7 +102,7 @@ impl Lay {
     }
 
     // The subject, then arms in braces.
-    #[cycle(arm_binary_block_body_chain_cond_decl_else__expr_exprs_flow_group_guard_if__inner_item_lead_let__link_loops_loose_match__object_pair_range_rows_select_stmt_stmts_tail_tuple)]
+    #[cycle(lay)]
     pub fn match_(
         src: &[u8],
         table: &[u32],

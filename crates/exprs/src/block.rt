@@ -21,7 +21,7 @@ use walk::tokens::token;
 
 impl Lay {
     // `block_with`: braces around a body.
-    #[cycle(arm_binary_block_body_chain_cond_decl_else__expr_exprs_flow_group_guard_if__inner_item_lead_let__link_loops_loose_match__object_pair_range_rows_select_stmt_stmts_tail_tuple)]
+    #[cycle(lay)]
     pub fn block(
         src: &[u8],
         table: &[u32],
@@ -47,7 +47,7 @@ impl Lay {
     }
 
     // A compact one that has no statement stays on its line.
-    #[cycle(arm_binary_block_body_chain_cond_decl_else__expr_exprs_flow_group_guard_if__inner_item_lead_let__link_loops_loose_match__object_pair_range_rows_select_stmt_stmts_tail_tuple)]
+    #[cycle(lay)]
     pub fn body(
         src: &[u8],
         table: &[u32],
@@ -73,7 +73,7 @@ impl Lay {
     }
 
     // `block_content`: inner attributes, then statements with their semicolons.
-    #[cycle(arm_binary_block_body_chain_cond_decl_else__expr_exprs_flow_group_guard_if__inner_item_lead_let__link_loops_loose_match__object_pair_range_rows_select_stmt_stmts_tail_tuple)]
+    #[cycle(lay)]
     pub fn stmts(
         src: &[u8],
         table: &[u32],
@@ -99,7 +99,7 @@ impl Lay {
     }
 
     // A statement, by its kind.
-    #[cycle(arm_binary_block_body_chain_cond_decl_else__expr_exprs_flow_group_guard_if__inner_item_lead_let__link_loops_loose_match__object_pair_range_rows_select_stmt_stmts_tail_tuple)]
+    #[cycle(lay)]
     pub fn stmt(
         src: &[u8],
         table: &[u32],

@@ -23,7 +23,7 @@ const CLOSE: u8 = bytes::PAREN_CLOSE;
 
 impl Lay {
     // Its head, then links, each on its line or on a new one.
-    #[cycle(arm_binary_block_body_chain_cond_decl_else__expr_exprs_flow_group_guard_if__inner_item_lead_let__link_loops_loose_match__object_pair_range_rows_select_stmt_stmts_tail_tuple)]
+    #[cycle(lay)]
     pub fn chain(
         src: &[u8],
         table: &[u32],
@@ -51,7 +51,7 @@ impl Lay {
     }
 
     // A link, by its kind.
-    #[cycle(arm_binary_block_body_chain_cond_decl_else__expr_exprs_flow_group_guard_if__inner_item_lead_let__link_loops_loose_match__object_pair_range_rows_select_stmt_stmts_tail_tuple)]
+    #[cycle(lay)]
     pub fn link(
         src: &[u8],
         table: &[u32],

@@ -19,7 +19,7 @@ use walk::stream::{Stream, expect, has_next, left_over, next_is, pump, records_o
 
 impl Lay {
     // A word, then a condition that is a node of its own or an expression, and a space.
-    #[cycle(arm_binary_block_body_chain_cond_decl_else__expr_exprs_flow_group_guard_if__inner_item_lead_let__link_loops_loose_match__object_pair_range_rows_select_stmt_stmts_tail_tuple)]
+    #[cycle(lay)]
     pub fn cond(
         src: &[u8],
         table: &[u32],
@@ -45,7 +45,7 @@ impl Lay {
     }
 
     // `let a = b`: `condition`, or `local` with what stands in front of it.
-    #[cycle(arm_binary_block_body_chain_cond_decl_else__expr_exprs_flow_group_guard_if__inner_item_lead_let__link_loops_loose_match__object_pair_range_rows_select_stmt_stmts_tail_tuple)]
+    #[cycle(lay)]
     pub fn let_(
         src: &[u8],
         table: &[u32],
@@ -70,7 +70,7 @@ impl Lay {
     }
 
     // `if`, and whatever stands behind its block.
-    #[cycle(arm_binary_block_body_chain_cond_decl_else__expr_exprs_flow_group_guard_if__inner_item_lead_let__link_loops_loose_match__object_pair_range_rows_select_stmt_stmts_tail_tuple)]
+    #[cycle(lay)]
     pub fn if_(
         src: &[u8],
         table: &[u32],
@@ -97,7 +97,7 @@ impl Lay {
     }
 
     // What stands behind the block of an `if`.
-    #[cycle(arm_binary_block_body_chain_cond_decl_else__expr_exprs_flow_group_guard_if__inner_item_lead_let__link_loops_loose_match__object_pair_range_rows_select_stmt_stmts_tail_tuple)]
+    #[cycle(lay)]
     pub fn tail(
         src: &[u8],
         table: &[u32],
@@ -116,7 +116,7 @@ impl Lay {
     }
 
     // `else`, or `else if`; any other node is written whole.
-    #[cycle(arm_binary_block_body_chain_cond_decl_else__expr_exprs_flow_group_guard_if__inner_item_lead_let__link_loops_loose_match__object_pair_range_rows_select_stmt_stmts_tail_tuple)]
+    #[cycle(lay)]
     pub fn else_(
         src: &[u8],
         table: &[u32],
@@ -154,7 +154,7 @@ impl Lay {
     }
 
     // `while`, `loop`, `for`.
-    #[cycle(arm_binary_block_body_chain_cond_decl_else__expr_exprs_flow_group_guard_if__inner_item_lead_let__link_loops_loose_match__object_pair_range_rows_select_stmt_stmts_tail_tuple)]
+    #[cycle(lay)]
     pub fn loops(
         src: &[u8],
         table: &[u32],

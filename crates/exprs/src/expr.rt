@@ -21,7 +21,7 @@ use walk::stream::{left_over, pump, records_of};
 impl Lay {
     // What may stand in front of it, then one node or token. In a group (871, 892) comments stand around both, and what is left over is
     // asked for behind them.
-    #[cycle(arm_binary_block_body_chain_cond_decl_else__expr_exprs_flow_group_guard_if__inner_item_lead_let__link_loops_loose_match__object_pair_range_rows_select_stmt_stmts_tail_tuple)]
+    #[cycle(lay)]
     pub fn expr(
         src: &[u8],
         table: &[u32],
@@ -55,7 +55,7 @@ impl Lay {
     }
 
     // `inner_expr`: the node's kind names the rule.
-    #[cycle(arm_binary_block_body_chain_cond_decl_else__expr_exprs_flow_group_guard_if__inner_item_lead_let__link_loops_loose_match__object_pair_range_rows_select_stmt_stmts_tail_tuple)]
+    #[cycle(lay)]
     pub fn inner(
         src: &[u8],
         table: &[u32],
@@ -96,7 +96,7 @@ impl Lay {
     }
 
     // The rest of them: ranges, control flow, assignments, and what leads to no expression.
-    #[cycle(arm_binary_block_body_chain_cond_decl_else__expr_exprs_flow_group_guard_if__inner_item_lead_let__link_loops_loose_match__object_pair_range_rows_select_stmt_stmts_tail_tuple)]
+    #[cycle(lay)]
     pub fn flow(
         src: &[u8],
         table: &[u32],

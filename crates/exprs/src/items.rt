@@ -19,7 +19,7 @@ use walk::stream::{expect, left_over, pump, records_of};
 
 impl Lay {
     // Attributes, then the item itself.
-    #[cycle(arm_binary_block_body_chain_cond_decl_else__expr_exprs_flow_group_guard_if__inner_item_lead_let__link_loops_loose_match__object_pair_range_rows_select_stmt_stmts_tail_tuple)]
+    #[cycle(lay)]
     pub fn item(
         src: &[u8],
         table: &[u32],
@@ -43,7 +43,7 @@ impl Lay {
     }
 
     // Modifiers, the head, then the value of a const, or a block, or neither.
-    #[cycle(arm_binary_block_body_chain_cond_decl_else__expr_exprs_flow_group_guard_if__inner_item_lead_let__link_loops_loose_match__object_pair_range_rows_select_stmt_stmts_tail_tuple)]
+    #[cycle(lay)]
     pub fn decl(
         src: &[u8],
         table: &[u32],

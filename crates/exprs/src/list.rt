@@ -21,7 +21,7 @@ use walk::tokens::token;
 
 impl Lay {
     // Between two tokens: `exprs_loose`, or `exprs_compact`, all on one line.
-    #[cycle(arm_binary_block_body_chain_cond_decl_else__expr_exprs_flow_group_guard_if__inner_item_lead_let__link_loops_loose_match__object_pair_range_rows_select_stmt_stmts_tail_tuple)]
+    #[cycle(lay)]
     pub fn exprs(
         src: &[u8],
         table: &[u32],
@@ -57,7 +57,7 @@ impl Lay {
     }
 
     // `exprs_loose`: each on a line of its own.
-    #[cycle(arm_binary_block_body_chain_cond_decl_else__expr_exprs_flow_group_guard_if__inner_item_lead_let__link_loops_loose_match__object_pair_range_rows_select_stmt_stmts_tail_tuple)]
+    #[cycle(lay)]
     pub fn loose(
         src: &[u8],
         table: &[u32],
@@ -80,7 +80,7 @@ impl Lay {
     }
 
     // `(a, b)`; the comma of a single one stays.
-    #[cycle(arm_binary_block_body_chain_cond_decl_else__expr_exprs_flow_group_guard_if__inner_item_lead_let__link_loops_loose_match__object_pair_range_rows_select_stmt_stmts_tail_tuple)]
+    #[cycle(lay)]
     pub fn tuple(
         src: &[u8],
         table: &[u32],

@@ -19,7 +19,7 @@ use walk::tokens::{any, token};
 impl Lay {
     // Keys, each alone or with a value: `expr_object_loose`, or `expr_object_compact`, all on one line. Only what stands behind the name
     // decides.
-    #[cycle(arm_binary_block_body_chain_cond_decl_else__expr_exprs_flow_group_guard_if__inner_item_lead_let__link_loops_loose_match__object_pair_range_rows_select_stmt_stmts_tail_tuple)]
+    #[cycle(lay)]
     pub fn object(
         src: &[u8],
         table: &[u32],
@@ -52,7 +52,7 @@ impl Lay {
     }
 
     // `expr_object_loose`: each key on a line of its own.
-    #[cycle(arm_binary_block_body_chain_cond_decl_else__expr_exprs_flow_group_guard_if__inner_item_lead_let__link_loops_loose_match__object_pair_range_rows_select_stmt_stmts_tail_tuple)]
+    #[cycle(lay)]
     pub fn rows(
         src: &[u8],
         table: &[u32],
@@ -74,7 +74,7 @@ impl Lay {
     }
 
     // A colon and a value behind a key.
-    #[cycle(arm_binary_block_body_chain_cond_decl_else__expr_exprs_flow_group_guard_if__inner_item_lead_let__link_loops_loose_match__object_pair_range_rows_select_stmt_stmts_tail_tuple)]
+    #[cycle(lay)]
     pub fn pair(
         src: &[u8],
         table: &[u32],

@@ -20,7 +20,7 @@ use walk::tokens::any;
 
 impl Lay {
     // `a + b + c`.
-    #[cycle(arm_binary_block_body_chain_cond_decl_else__expr_exprs_flow_group_guard_if__inner_item_lead_let__link_loops_loose_match__object_pair_range_rows_select_stmt_stmts_tail_tuple)]
+    #[cycle(lay)]
     pub fn binary(
         src: &[u8],
         table: &[u32],
@@ -44,7 +44,7 @@ impl Lay {
     }
 
     // An operator with an operand behind it, before it, or both: `expr_unary` and the ranges.
-    #[cycle(arm_binary_block_body_chain_cond_decl_else__expr_exprs_flow_group_guard_if__inner_item_lead_let__link_loops_loose_match__object_pair_range_rows_select_stmt_stmts_tail_tuple)]
+    #[cycle(lay)]
     pub fn range(
         src: &[u8],
         table: &[u32],
@@ -78,7 +78,7 @@ impl Lay {
     }
 
     // An expression or none, in parentheses or between the marks of an empty group.
-    #[cycle(arm_binary_block_body_chain_cond_decl_else__expr_exprs_flow_group_guard_if__inner_item_lead_let__link_loops_loose_match__object_pair_range_rows_select_stmt_stmts_tail_tuple)]
+    #[cycle(lay)]
     pub fn group(
         src: &[u8],
         table: &[u32],
@@ -106,7 +106,7 @@ impl Lay {
     }
 
     // A closure or a jump: `|a| b`, `break`, `continue`, `return`, `yield`.
-    #[cycle(arm_binary_block_body_chain_cond_decl_else__expr_exprs_flow_group_guard_if__inner_item_lead_let__link_loops_loose_match__object_pair_range_rows_select_stmt_stmts_tail_tuple)]
+    #[cycle(lay)]
     pub fn lead(
         src: &[u8],
         table: &[u32],

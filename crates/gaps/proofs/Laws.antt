@@ -9,7 +9,7 @@ use Rattle.gaps.specs.Statements.{semicolon}
 
 pub entry_leaves : (rs : List Record) → Leaves (end_entry rs)
 unfolding end_entry
-entry_leaves rs = put_leaves rs Comma leaves-then plain_leaves (make (Nl 1))
+entry_leaves rs = put_leaves rs Comma leaves_then plain_leaves (make (Nl 1))
 
 pub key_takes : (want : ℕ → Bool) → Takes want key_line
 unfolding key_line

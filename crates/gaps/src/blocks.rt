@@ -1,7 +1,7 @@
 // The block behind an item's head: format.rs 1441 to 1462, 1544 to 1573.
 ghost use Rattle.std.specs.Prelude.{◌≡◌};
 ghost use Rattle.lent.specs.Loans.{Made};
-ghost use Rattle.walk.specs.Stream.{tree, stream_in};
+ghost use Rattle.walk.specs.Stream.{tree, stream_here};
 ghost use Rattle.gaps.specs.Blocks.{is_mod, asks_block, before_block, no_block};
 
 use calls::{lit, nl, ws};
@@ -23,7 +23,7 @@ fn is_mod(kind: u8) -> bool
 
 // Whether one stands there, or must.
 pub fn asks_block(table: &[u32], p: &Stream, kind: u8) -> bool
-    ensures { result ≡ asks_block (tree table) kind (stream_in table p) }
+    ensures { result ≡ asks_block (tree table) kind (stream_here table p) }
 {
     if kind == bytes::ITEM_IMPL {
         return true;

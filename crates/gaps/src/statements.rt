@@ -1,7 +1,7 @@
 // What stands around statements and blocks: format.rs 867 to 904, 1609 to 1674.
 ghost use Rattle.std.specs.Prelude.{◌≡◌};
 ghost use Rattle.lent.specs.Loans.{Made};
-ghost use Rattle.walk.specs.Stream.{tree, stream_in};
+ghost use Rattle.walk.specs.Stream.{tree, stream_here};
 ghost use Rattle.walk.specs.Flow.{Walked};
 ghost use Rattle.steps.specs.Remaining.{remaining_of};
 ghost use Rattle.gaps.specs.Statements.{is_const, is_local, lines_of, gap, before_semi, semicolon, is_spread, enter, leave, group_end};
@@ -181,7 +181,7 @@ pub fn group_end(
 
 // A block is spread over lines unless it is compact and empty.
 pub fn is_spread(table: &[u32], p: &Stream, compact: bool) -> bool
-    ensures { result ≡ is_spread compact (stream_in table p) }
+    ensures { result ≡ is_spread compact (stream_here table p) }
 {
     if compact {
         return has_next(table, p);

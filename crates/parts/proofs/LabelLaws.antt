@@ -14,7 +14,7 @@ use Rattle.parts.specs.Spaced.{is_expr, is_guard}
 use Rattle.parts.specs.Leads.{lead_takes}
 
 pub labels_fall : (rs : List Record) → Falls (λ (s : Stream). s) (is rs Kind.Label) (pump write ▸ put_remaining rs Colon ▸ call Ws)
-labels_fall rs = taking_falls (pump_takes (is rs Kind.Label) write takes-then put_leaves rs Colon leaves-then plain_leaves (make Ws))
+labels_fall rs = taking_falls (pump_takes (is rs Kind.Label) write takes_then put_leaves rs Colon leaves_then plain_leaves (make Ws))
 
 pub jumps_fall : (rs : List Record) → Falls (λ (s : Stream). s) (is rs Kind.Label) (call Ws ▸ pump write)
 jumps_fall rs = taking_falls (plain_takes (make Ws) (pump_takes (is rs Kind.Label) write))

@@ -15,4 +15,4 @@ module _ {x : Script} (rs : List Record) (f : RecordNo → Plan) {s s' : Stream}
 
 pub between_takes : (rs : List Record) (kind : ℕ) → Takes (is_byte rs kind) (between rs kind)
 unfolding between
-between_takes rs kind = plain_takes (make Ws) (expect_takes rs kind write takes-then plain_leaves (make Ws))
+between_takes rs kind = plain_takes (make Ws) (expect_takes rs kind write takes_then plain_leaves (make Ws))

@@ -1,6 +1,6 @@
 // Labels, and all that may stand in front of an expression: format.rs 54 to 62, 560 to 573.
 ghost use Rattle.std.specs.Prelude.{◌≡◌};
-ghost use Rattle.walk.specs.Stream.{tree, stream_in};
+ghost use Rattle.walk.specs.Stream.{tree, stream_here};
 ghost use Rattle.walk.specs.Flow.{Walked};
 ghost use Rattle.parts.specs.Labels.{expr_labels, preceded, before_expr};
 
@@ -34,7 +34,7 @@ fn expr_labels(
 
 // Whether an attribute, modifiers or a label is next.
 fn preceded(table: &[u32], p: &Stream) -> bool
-    ensures { result ≡ preceded (tree table) (stream_in table p) }
+    ensures { result ≡ preceded (tree table) (stream_here table p) }
 {
     if next_is(table, p, bytes::ATTR) {
         return true;

@@ -1,7 +1,7 @@
 // What leads to a value that may be missing, closures and jumps: format.rs 980 to 1027, 1137 to 1179.
 ghost use Rattle.std.specs.Prelude.{◌≡◌};
 ghost use Rattle.lent.specs.Loans.{Made};
-ghost use Rattle.walk.specs.Stream.{tree, stream_in, next_is};
+ghost use Rattle.walk.specs.Stream.{tree, stream_here, next_is};
 ghost use Rattle.walk.specs.Flow.{Walked};
 ghost use Rattle.parts.specs.Leads.{jump_labels, jump_word, lead_head, lead_takes, before_value, no_value};
 
@@ -80,7 +80,7 @@ pub fn lead_head(
 
 // Whether a value stands there; `continue` takes none.
 pub fn lead_takes(table: &[u32], p: &Stream, kind: u8) -> bool
-    ensures { result ≡ next_is (lead_takes (tree table) kind) (stream_in table p) }
+    ensures { result ≡ next_is (lead_takes (tree table) kind) (stream_here table p) }
 {
     if kind == bytes::EXPR_CONTINUE {
         return false;

@@ -1,6 +1,6 @@
 // Tokens with spaces, and the kinds that are the Rust's Expr.
 ghost use Rattle.std.specs.Prelude.{◌≡◌};
-ghost use Rattle.walk.specs.Stream.{tree, stream_in, stream_out, next_is, take_if, Ate};
+ghost use Rattle.walk.specs.Stream.{tree, stream_here, stream_in, stream_out, next_is, take_if, Ate};
 ghost use Rattle.walk.specs.Flow.{Walked};
 ghost use Rattle.parts.specs.Spaced.{is_expr, ExpectedExpr, TookGuard, word, between};
 
@@ -14,7 +14,7 @@ use walk::tokens::token;
 
 // An expression is next, whether it needs a semicolon or not.
 pub fn next_expr(table: &[u32], p: &Stream) -> bool
-    ensures { result ≡ next_is (is_expr (tree table)) (stream_in table p) }
+    ensures { result ≡ next_is (is_expr (tree table)) (stream_here table p) }
 {
     if next_is(table, p, bytes::EXPR) {
         return true;

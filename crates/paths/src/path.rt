@@ -18,7 +18,7 @@ use walk::stream::{Stream, expect, has_next, left_over, next_is, pump, records_o
 use walk::tokens::token;
 
 // Its parts, one behind the other.
-#[cycle(path_path_generics_path_part)]
+#[cycle(path)]
 pub fn path(
     src: &[u8],
     table: &[u32],
@@ -43,7 +43,7 @@ pub fn path(
 }
 
 // Generics by their rule, any other node whole.
-#[cycle(path_path_generics_path_part)]
+#[cycle(path)]
 fn path_part(
     src: &[u8],
     table: &[u32],
@@ -63,7 +63,7 @@ fn path_part(
 }
 
 // `<a, b>`.
-#[cycle(path_path_generics_path_part)]
+#[cycle(path)]
 pub fn path_generics(
     src: &[u8],
     table: &[u32],

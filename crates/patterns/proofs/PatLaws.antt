@@ -69,7 +69,7 @@ keyed_item rs pat c a b i = steady (made.◌▹◌ a b) ▹ i
 
 colon_leaves : (rs : List Record) (pat : RecordNo → Plan) → Leaves (colon_pat rs pat)
 unfolding colon_pat
-colon_leaves rs pat = next_leaves (is rs Kind.Colon) (pump_leaves write leaves-then plain_leaves (make Ws) leaves-then expect_leaves rs (byte_of Kind.Pat) pat) (plain_leaves nothing)
+colon_leaves rs pat = next_leaves (is rs Kind.Colon) (pump_leaves write leaves_then plain_leaves (make Ws) leaves_then expect_leaves rs (byte_of Kind.Pat) pat) (plain_leaves nothing)
 
 object_takes : (rs : List Record) (pat : RecordNo → Plan) → Takes (key_or_dots rs) (object_item rs pat)
 unfolding key_or_dots either object_item if_next pump expect_byte take_if ◌▸◌

@@ -22,7 +22,7 @@ use walk::stream::{Stream, expect, left_over, next_is, pump, records_of};
 use walk::tokens::{any, token};
 
 // A pattern: its attributes, then its one child.
-#[cycle(colon_pat_object_item_pat_pat_array_pat_child_pat_item_pat_object_pat_tuple)]
+#[cycle(pat)]
 pub fn pat(
     src: &[u8],
     table: &[u32],
@@ -46,7 +46,7 @@ pub fn pat(
 }
 
 // The child's kind names the rule.
-#[cycle(colon_pat_object_item_pat_pat_array_pat_child_pat_item_pat_object_pat_tuple)]
+#[cycle(pat)]
 fn pat_child(
     src: &[u8],
     table: &[u32],
@@ -71,7 +71,7 @@ fn pat_child(
 }
 
 // `..` is written, another is a pattern.
-#[cycle(colon_pat_object_item_pat_pat_array_pat_child_pat_item_pat_object_pat_tuple)]
+#[cycle(pat)]
 fn pat_item(
     src: &[u8],
     table: &[u32],
@@ -91,7 +91,7 @@ fn pat_item(
 }
 
 // `[a, b, ..]`.
-#[cycle(colon_pat_object_item_pat_pat_array_pat_child_pat_item_pat_object_pat_tuple)]
+#[cycle(pat)]
 pub fn pat_array(
     src: &[u8],
     table: &[u32],
@@ -118,7 +118,7 @@ pub fn pat_array(
 }
 
 // `(a, b)`, with its path, if it has one.
-#[cycle(colon_pat_object_item_pat_pat_array_pat_child_pat_item_pat_object_pat_tuple)]
+#[cycle(pat)]
 pub fn pat_tuple(
     src: &[u8],
     table: &[u32],
@@ -149,7 +149,7 @@ pub fn pat_tuple(
 }
 
 // `#{ a, b: c }`, or with a path in place of `#`.
-#[cycle(colon_pat_object_item_pat_pat_array_pat_child_pat_item_pat_object_pat_tuple)]
+#[cycle(pat)]
 pub fn pat_object(
     src: &[u8],
     table: &[u32],
@@ -177,7 +177,7 @@ pub fn pat_object(
 }
 
 // A key with its pattern, or `..`.
-#[cycle(colon_pat_object_item_pat_pat_array_pat_child_pat_item_pat_object_pat_tuple)]
+#[cycle(pat)]
 fn object_item(
     src: &[u8],
     table: &[u32],
@@ -198,7 +198,7 @@ fn object_item(
 }
 
 // A colon and a pattern behind a key.
-#[cycle(colon_pat_object_item_pat_pat_array_pat_child_pat_item_pat_object_pat_tuple)]
+#[cycle(pat)]
 fn colon_pat(
     src: &[u8],
     table: &[u32],

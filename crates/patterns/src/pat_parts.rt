@@ -2,7 +2,7 @@
 ghost use Rattle.std.specs.Prelude.{◌≡◌};
 ghost use Rattle.kinds.specs.declared.Kind.{Kind};
 ghost use Rattle.lent.specs.Loans.{Made};
-ghost use Rattle.walk.specs.Stream.{tree, stream_in, next_is};
+ghost use Rattle.walk.specs.Stream.{tree, stream_here, next_is};
 ghost use Rattle.walk.specs.Flow.{Walked, eat, parse};
 ghost use Rattle.steps.specs.Remaining.{remaining_of};
 ghost use Rattle.steps.specs.Items.{few_of, more};
@@ -56,7 +56,7 @@ pub fn pat_lit(
 
 // A pattern or `..` is next.
 pub fn pat_or_dots(table: &[u32], p: &Stream) -> bool
-    ensures { result ≡ next_is (pat_or_dots (tree table)) (stream_in table p) }
+    ensures { result ≡ next_is (pat_or_dots (tree table)) (stream_here table p) }
 {
     if next_is(table, p, bytes::PAT) {
         return true;
@@ -134,7 +134,7 @@ pub fn object_name(
 
 // A key or `..` is next.
 pub fn key_or_dots(table: &[u32], p: &Stream) -> bool
-    ensures { result ≡ next_is (key_or_dots (tree table)) (stream_in table p) }
+    ensures { result ≡ next_is (key_or_dots (tree table)) (stream_here table p) }
 {
     if next_is(table, p, bytes::OBJ_KEY) {
         return true;

@@ -101,6 +101,7 @@ unfolding reason
 reason_true x keys k from = go (too_wide x k) refl
   where
     by : (r : Reason) → too_wide x k ≡ false → reason x keys k from ≡ r → Says x.tree keys 0 (children_from x.tree k from) r → True x keys k from r
+    by (Wide _) w e x5 = elim x5 [ ]
     by (Comment c) w e (said_note g h i) = note w g (omega arith) i
     by (Sixth c) w e (said_sixth {m = m} g h i j) = let z : m ≡ 5 = omega arith in sixth w (rw z at g) i j
     by Fits w e said_none = fits (rw e at (sym (loose_by_rule x keys k from)))

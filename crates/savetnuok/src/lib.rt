@@ -1,5 +1,5 @@
-// The functions that a C program links: numbers and byte slices only. Each asks all it needs of what is lent, and promises its answer
-// and every byte of what it may write.
+// The functions that are offered: numbers and byte slices only. Each asks all it needs of what is lent, and promises its answer and every
+// byte of what it may write. Crate savetnuok_c hands them to C.
 #![tactic(auto)]
 
 ghost use Rattle.std.specs.Prelude.{◌≡◌, false};
@@ -42,8 +42,7 @@ fn refused(a: Answer) -> bool
 }
 
 // A fresh engine in the lent state, or refusal 1, 2, 3, 7, or 5 for a state of another length.
-#[unsafe(no_mangle)]
-pub extern "C" fn savetnuok_open(source: &[u8], tree: &[u8], state: &mut [u8]) -> u64
+pub fn savetnuok_open(source: &[u8], tree: &[u8], state: &mut [u8]) -> u64
     ensures { Opened source.now tree.now state.old result state.new }
 {
     let answer = opening(source, tree);
@@ -59,8 +58,7 @@ pub extern "C" fn savetnuok_open(source: &[u8], tree: &[u8], state: &mut [u8]) -
 }
 
 // One call record on the lent state and buffer.
-#[unsafe(no_mangle)]
-pub extern "C" fn savetnuok_call(
+pub fn savetnuok_call(
     source: &[u8],
     tree: &[u8],
     state: &mut [u8],
@@ -106,35 +104,21 @@ fn laid(source: &[u8], tree: &[u8], state: &mut [u8], out: &mut [u8], w: Wanted)
 }
 
 // A layout run on a node of the tree, on the lent state and buffer.
-#[unsafe(no_mangle)]
-pub extern "C" fn savetnuok_run(
-    source: &[u8],
-    tree: &[u8],
-    state: &mut [u8],
-    out: &mut [u8],
-    node: u32,
-) -> u64
+pub fn savetnuok_run(source: &[u8], tree: &[u8], state: &mut [u8], out: &mut [u8], node: u32) -> u64
     ensures { LaidOn source tree state out node result }
 {
     laid(source, tree, state, out, Wanted::Node(RecordNo(node)))
 }
 
 // A whole layout of the script whose body is record 0, on the lent state and buffer.
-#[unsafe(no_mangle)]
-pub extern "C" fn savetnuok_layout(
-    source: &[u8],
-    tree: &[u8],
-    state: &mut [u8],
-    out: &mut [u8],
-) -> u64
+pub fn savetnuok_layout(source: &[u8], tree: &[u8], state: &mut [u8], out: &mut [u8]) -> u64
     ensures { WholeOn source tree state out result }
 {
     laid(source, tree, state, out, Wanted::All)
 }
 
 // Why a list went over several lines: the reason's number and place, 0 for a compact list, or a refusal. Nothing that is lent is written.
-#[unsafe(no_mangle)]
-pub extern "C" fn savetnuok_why(source: &[u8], tree: &[u8], node: u32) -> u64
+pub fn savetnuok_why(source: &[u8], tree: &[u8], node: u32) -> u64
     ensures { ToldOn source tree node result }
 {
     in_one(why_in(source, tree, RecordNo(node)))

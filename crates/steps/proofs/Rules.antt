@@ -1,5 +1,5 @@
 -- What the proofs of rules are written with, in one place: names of the libraries, of the engine and of the steps. Assumes nothing.
-pub use Rattle.text.proofs.Base.{◌≡◌, refl, sym, ap, subst, ◌∙◌, Bool, true, false, not, cond, ◌||◌, List, [], ◌∷◌, ◌⊎◌, inl, inr, ℕ, zero, suc, ◌+◌, ◌-◌, ◌*◌, ◌≤◌, ◌<◌, arith, length, eqb, leb, ltb, ne_eqb, needs}
+pub use Rattle.text.proofs.Base.{◌≡◌, refl, sym, ap, subst, ◌∙◌, Bool, true, false, not, cond, ◌||◌, List, [], ◌∷◌, ◌⊎◌, inl, inr, ℕ, zero, suc, ◌+◌, ◌-◌, ◌*◌, ◌≤◌, ◌<◌, arith, length, eqb, leb, ltb, ne_eqb, rules}
 pub use Rattle.tree.specs.declared.record.Record.{Record}
 pub use Rattle.tree.specs.declared.record.RecordNo.{RecordNo}
 pub use Rattle.tree.specs.Table.{node_of, tree_of}

@@ -102,4 +102,4 @@ pub pump_falls : (want : ℕ → Bool) (rule : RecordNo → Plan) → Falls (λ 
 pump_falls want rule = taking_falls (pump_takes want rule)
 
 pub pump_then_falls : (want : ℕ → Bool) (rule : RecordNo → Plan) (p : Plan) → Falls (λ (s : Stream). s) want (pump rule ▸ plain p)
-pump_then_falls want rule p = taking_falls (pump_takes want rule takes-then plain_leaves p)
+pump_then_falls want rule p = taking_falls (pump_takes want rule takes_then plain_leaves p)

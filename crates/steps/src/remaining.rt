@@ -2,7 +2,7 @@
 ghost use Rattle.std.specs.Prelude.{◌≡◌};
 ghost use Rattle.kinds.specs.Facts.{byte_of};
 ghost use Rattle.lent.specs.Loans.{Made, Refused};
-ghost use Rattle.walk.specs.Stream.{tree, stream_in};
+ghost use Rattle.walk.specs.Stream.{tree, stream_here};
 ghost use Rattle.walk.specs.Flow.{Walked};
 ghost use Rattle.steps.specs.Remaining.{token_of, literal_of, second, fmt as written, ignore, says, is_present, write_if, write_only_if};
 ghost use Rattle.steps.specs.Remaining.{remaining_of, put_remaining, Rested, Tells, MadeOf};
@@ -61,7 +61,7 @@ fn literal_of(mark: Mark) -> Literal
 
 // A second one is refused.
 fn once(table: &[u32], fmt: &mut Formatter, p: &Stream, mark: Mark)
-    ensures { Refused fmt (second (tree table) mark (stream_in table p)) }
+    ensures { Refused fmt (second (tree table) mark (stream_here table p)) }
 {
     if next_is(table, p, byte_of(mark)) {
         not_met(table, fmt, p);

@@ -18,7 +18,7 @@ use walk::stream::{Stream, left_over, next_is, node_of, pump, records_of};
 use walk::tokens::token;
 
 // format.rs 1496 to 1542.
-#[cycle(item_use_group_item_use_path_use_node_use_part)]
+#[cycle(uses)]
 pub fn item_use_group(
     src: &[u8],
     table: &[u32],
@@ -46,7 +46,7 @@ pub fn item_use_group(
 }
 
 // A group by its rule, any other node whole.
-#[cycle(item_use_group_item_use_path_use_node_use_part)]
+#[cycle(uses)]
 fn use_part(
     src: &[u8],
     table: &[u32],
@@ -66,7 +66,7 @@ fn use_part(
 }
 
 // As far as `as`.
-#[cycle(item_use_group_item_use_path_use_node_use_part)]
+#[cycle(uses)]
 pub fn item_use_path(
     src: &[u8],
     table: &[u32],
@@ -90,7 +90,7 @@ pub fn item_use_path(
 }
 
 // A path that is a node of its own.
-#[cycle(item_use_group_item_use_path_use_node_use_part)]
+#[cycle(uses)]
 pub fn use_node(
     src: &[u8],
     table: &[u32],

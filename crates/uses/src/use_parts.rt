@@ -1,7 +1,7 @@
 // What stands in uses and leads to no group.
 ghost use Rattle.std.specs.Prelude.{◌≡◌, not, ℕ};
 ghost use Rattle.kinds.specs.declared.Kind.{Kind};
-ghost use Rattle.walk.specs.Stream.{tree, records_of, next_is, stream_in};
+ghost use Rattle.walk.specs.Stream.{tree, records_of, next_is, stream_here};
 ghost use Rattle.walk.specs.Flow.{Walked, expect_byte, is};
 ghost use Rattle.uses.specs.Use.{how_many, is_one, braced, as_name};
 
@@ -55,7 +55,7 @@ pub fn brace(
 
 // A record that is not `as` is next.
 pub fn before_as(table: &[u32], p: &Stream) -> bool
-    ensures { result ≡ next_is (λ (k : ℕ). not (is (tree table) Kind.As k)) (stream_in table p) }
+    ensures { result ≡ next_is (λ (k : ℕ). not (is (tree table) Kind.As k)) (stream_here table p) }
 {
     let k = peek(table, p);
     if is_some(k) {

@@ -95,6 +95,10 @@ pub record Ate (t : Took) (k : RecordNo) (s' : Stream) : Type 0 where
   pub found : found_of k ≡ t.found
   pub rest : s' ≡ t.rest
 
+-- the stream that is lent: to be read, or to be gone on in, before and behind
+abbrev pub stream_here : Loan → Loan → Stream
+stream_here table p = stream_at (tree table) p.entry.now
+
 abbrev pub stream_in : Loan → MutLoan → Stream
 stream_in table p = stream_at (tree table) p.entry.now
 

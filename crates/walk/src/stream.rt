@@ -3,7 +3,7 @@
 ghost use Rattle.std.specs.Prelude.{◌≡◌, true, ℕ, length};
 ghost use Rattle.lent.specs.Loans.{Refused};
 ghost use Rattle.walk.specs.Stream.{no, is_byte, is_some, next_is, met, take_if, take_any, records_of, tree, passed};
-ghost use Rattle.walk.specs.Stream.{stream_at, stream_in, stream_out, Peeked, Ate};
+ghost use Rattle.walk.specs.Stream.{stream_at, stream_here, stream_in, stream_out, Peeked, Ate};
 ghost use Rattle.walk.specs.Flow.{not_met, left_over, Pumped, Expected};
 
 use lent::formatter::{Formatter, refuse};
@@ -55,28 +55,28 @@ pub fn records_of(table: &[u32], k: RecordNo) -> Stream
 
 // The node whose records these are.
 pub fn node_of(table: &[u32], p: &Stream) -> RecordNo
-    ensures { result ≡ (stream_in table p).node }
+    ensures { result ≡ (stream_here table p).node }
 {
     RecordNo(p[NODE])
 }
 
 // The next record.
 pub fn peek(table: &[u32], p: &Stream) -> RecordNo
-    ensures { Peeked (stream_in table p) result }
+    ensures { Peeked (stream_here table p) result }
 {
     RecordNo(p[NEXT])
 }
 
 // Whether there is a next record.
 pub fn has_next(table: &[u32], p: &Stream) -> bool
-    ensures { result ≡ next_is (λ (k : ℕ). true) (stream_in table p) }
+    ensures { result ≡ next_is (λ (k : ℕ). true) (stream_here table p) }
 {
     is_some(peek(table, p))
 }
 
 // Whether the next record is of this kind.
 pub fn next_is(table: &[u32], p: &Stream, kind: u8) -> bool
-    ensures { result ≡ next_is (is_byte (tree table) kind) (stream_in table p) }
+    ensures { result ≡ next_is (is_byte (tree table) kind) (stream_here table p) }
 {
     let k = peek(table, p);
     if is_some(k) {
@@ -117,7 +117,7 @@ pub fn eat(table: &[u32], p: &mut Stream, kind: u8) -> RecordNo
 
 // The place of refusal 8: the record met, or the node where there is none.
 fn met(table: &[u32], p: &Stream) -> RecordNo
-    ensures { result ≡ met (stream_in table p) }
+    ensures { result ≡ met (stream_here table p) }
 {
     let k = peek(table, p);
     if is_some(k) {
@@ -128,7 +128,7 @@ fn met(table: &[u32], p: &Stream) -> RecordNo
 
 // Refusal 8 at the record met.
 pub fn not_met(table: &[u32], fmt: &mut Formatter, p: &Stream)
-    ensures { Refused fmt (not_met (stream_in table p)) }
+    ensures { Refused fmt (not_met (stream_here table p)) }
 {
     refuse(fmt, Refusal::WrongKind(met(table, p)));
 }
@@ -159,7 +159,7 @@ pub fn expect(table: &[u32], fmt: &mut Formatter, p: &mut Stream, kind: u8) -> R
 
 // A node's rule may leave white space and comments, nothing else.
 pub fn left_over(table: &[u32], fmt: &mut Formatter, p: &Stream)
-    ensures { Refused fmt (left_over (stream_in table p)) }
+    ensures { Refused fmt (left_over (stream_here table p)) }
 {
     let k = peek(table, p);
     if is_some(k) {

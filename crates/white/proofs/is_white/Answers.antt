@@ -63,12 +63,12 @@ loop-k-preserved c =
     let w = c.loop-k.w in
     let h : k < 10 = omega (arith, c.loop-k-test.true) in
     let e = c.loop-k.invariant.1 in (
-    omega arith,
-    elim c.if-lo-c.branch [
-      | then-lo-c+then-c-hi j ↦ rw j.w-is (sym (holds cp k w h j.if-lo-c.true j.if-c-hi.true) ∙ e)
-      | then-lo-c+else-c-hi j ↦ rw j.w-is (sym (ends_before cp k w h j.if-c-hi.false) ∙ e)
-      | else-lo-c j ↦ rw j.w-is (sym (starts_behind cp k w h j.if-lo-c.false) ∙ e)
-    ],
+      omega arith,
+      elim c.if-lo-c.branch [
+        | then-lo-c+then-c-hi j ↦ rw j.w-is (sym (holds cp k w h j.if-lo-c.true j.if-c-hi.true) ∙ e)
+        | then-lo-c+else-c-hi j ↦ rw j.w-is (sym (ends_before cp k w h j.if-c-hi.false) ∙ e)
+        | else-lo-c j ↦ rw j.w-is (sym (starts_behind cp k w h j.if-lo-c.false) ∙ e)
+      ],
     )
 
 pub returns : goal.returns

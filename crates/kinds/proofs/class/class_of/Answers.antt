@@ -8,6 +8,7 @@ use Rattle.kinds.specs.declared.class.Class.{Class}
 use Rattle.kinds.specs.Facts.{class_of, facts_of}
 use Rattle.kinds.specs.contracts.Kind.{enum}
 use Rattle.kinds.proofs.Arms.{arm}
+use borrow.Enum.Refused.{opened}
 use Rattle.kinds.proofs.class.class_of.Goals as goal
 
 abbrev number : Class → ℕ
@@ -38,4 +39,4 @@ returns-in-Expr c = arm enum tt Kind.Unknown class_of Class.Other (is 3) c.args.
 
 pub returns-in_default : goal.returns-in_default
 unfolding class_of facts_of
-returns-in_default c = arm enum tt Kind.Unknown class_of Class.None (is 4) c.args.kind refl c.in_default.in_default-own.keys5
+returns-in_default c = arm enum tt Kind.Unknown class_of Class.None (is 4) c.args.kind refl (opened c.in_default.in_default-own.keys5)

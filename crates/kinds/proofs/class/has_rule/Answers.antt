@@ -4,6 +4,7 @@ use Rattle.kinds.specs.declared.Kind.{Kind}
 use Rattle.kinds.specs.Facts.{has_rule, facts_of}
 use Rattle.kinds.specs.contracts.Kind.{enum}
 use Rattle.kinds.proofs.Arms.{arm}
+use borrow.Enum.Refused.{opened}
 use Rattle.kinds.proofs.class.has_rule.Goals as goal
 
 pub returns-in-BlockBody : goal.returns-in-BlockBody
@@ -12,4 +13,4 @@ returns-in-BlockBody c = arm enum tt Kind.Unknown has_rule true (λ b. b) c.args
 
 pub returns-in_default : goal.returns-in_default
 unfolding has_rule facts_of
-returns-in_default c = arm enum tt Kind.Unknown has_rule false not c.args.kind refl c.in_default.in_default-own.keys2
+returns-in_default c = arm enum tt Kind.Unknown has_rule false not c.args.kind refl (opened c.in_default.in_default-own.keys2)

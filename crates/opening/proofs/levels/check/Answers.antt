@@ -10,21 +10,21 @@ pub overflow_cast-result : goal.overflow_cast-result
 overflow_cast-result c =
     omega (
       arith,
-      not_many c.count-n.ensures (λ i. omega (arith, c.shared_slice_known-2-1.given i)) c.«?end_of_lem».ensures c.level-w.ensures
+      not_many c.count-n.ensures (λ i. omega (arith, c.shared_slice_known-2-1.given i)) c.end_of-hi.ensures c.level-w.ensures
           c.in-Good.is,
     )
 
 pub returns-in-Good : goal.returns-in-Good
 returns-in-Good c =
-    answers c.count-n.ensures (λ i. omega (arith, c.shared_slice_known-2-1.given i)) c.«?end_of_lem».ensures c.level-w.ensures
+    answers c.count-n.ensures (λ i. omega (arith, c.shared_slice_known-2-1.given i)) c.end_of-hi.ensures c.level-w.ensures
     c.in-Good.is
 
 pub returns-in-Bad : goal.returns-in-Bad
 returns-in-Bad c =
-    answers c.count-n.ensures (λ i. omega (arith, c.shared_slice_known-2-1.given i)) c.«?end_of_lem».ensures c.level-w.ensures
+    answers c.count-n.ensures (λ i. omega (arith, c.shared_slice_known-2-1.given i)) c.end_of-hi.ensures c.level-w.ensures
     c.in-Bad.is
 
 pub returns-in-Deep : goal.returns-in-Deep
 returns-in-Deep c =
-    answers c.count-n.ensures (λ i. omega (arith, c.shared_slice_known-2-1.given i)) c.«?end_of_lem».ensures c.level-w.ensures
+    answers c.count-n.ensures (λ i. omega (arith, c.shared_slice_known-2-1.given i)) c.end_of-hi.ensures c.level-w.ensures
     c.in-Deep.is

@@ -11,4 +11,4 @@ pub overflow_add-result : goal.overflow_add-result
 overflow_add-result c = omega (arith, place_inside c.args.src.now c.args.span _ c.part.ensures c.place_of-before.ensures)
 
 pub returns : goal.returns
-returns c = ap (λ (n : ℕ). record { 0 = c.args.span.c.0 + n }) (c.place_of-before.ensures ∙ ap (place_of _) c.part.ensures)
+returns c = ap (λ (n : ℕ). record { 0 = c.args.span.start.0 + n }) (c.place_of-before.ensures ∙ ap (place_of _) c.part.ensures)

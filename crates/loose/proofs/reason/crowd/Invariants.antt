@@ -1,0 +1,10 @@
+use Rattle.loose.proofs.ReasonLaws.{Crowding}
+use Rattle.text.proofs.Base.{◌-◌}
+use Rattle.tree.specs.Table.{tree_of}
+use Rattle.loose.proofs.reason.crowd.Given as goal
+
+abbrev pub invariant-loop-at : goal.invariant-loop-at
+invariant-loop-at l = Crowding (tree_of l.table) l.keys l.initial.at l.end l.at l.entries
+
+abbrev pub decreases-loop-at : goal.decreases-loop-at
+decreases-loop-at l = l.end - l.at
