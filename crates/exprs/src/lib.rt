@@ -12,7 +12,7 @@ mod list;
 mod object;
 mod operand;
 
-// The cycle's functions are methods with no self, so that it is named by their own names, in whichever file they stand. A name is the
+// The cycle's functions are methods with no self, so that proofs name them by their own names, in whichever file they stand. A name is the
 // Rust's without its prefix, with `_` behind it where the word is a keyword.
 #[derive(Clone, Copy)]
 pub struct Lay {

@@ -1,0 +1,5 @@
+-- `wire::state_bytes::read_state` meets its contract. Assumes nothing.
+use Rattle.wire.proofs.state_bytes.read_state.Goals as goal
+
+pub returns : goal.returns
+returns c = (rw (c.read_now-now.ensures.0, c.queue_in.ensures), c.read_now-now.ensures.1)
