@@ -4,6 +4,7 @@ use crate::say::show;
 use entry::state::fresh;
 use format::runs;
 use kinds::bytes;
+use std::io;
 use tree::record::RecordNo;
 
 fn put(list: &mut [u8], at: usize, b: u8) {
@@ -35,54 +36,57 @@ fn name(list: &mut [u8], at: usize, start: u8, end: u8) -> usize {
 }
 
 // A run on the list, fresh.
-fn lay(title: &[u8], source: &[u8], list: &[u8]) {
+fn lay(to: &impl Print, title: &str, source: &[u8], list: &[u8]) -> io::Result<()> {
     let mut out = [0u8; 100];
     let done = runs::run(source, list, &mut out, fresh(), RecordNo(0));
     let a = done.answer;
     let state = done.state;
-    show(title, a, state, &out);
+    show(to, title, a, state, &out)
 }
 
 // So many letters in brackets without text.
-fn letters(title: &[u8], source: &[u8], n: u8) {
+fn letters(to: &impl Print, title: &str, source: &[u8], n: u8) -> io::Result<()> {
     let mut list = [0u8; 53];
     let at = node(&mut list, 0, bytes::EXPR_CALL, 0, n, 4);
     let at = leaf(&mut list, at, bytes::PAREN_OPEN, 0, 0);
     let at = name(&mut list, at, 0, n);
     leaf(&mut list, at, bytes::PAREN_CLOSE, n, n);
-    lay(title, source, &list);
+    lay(to, title, source, &list)
 }
 
 // 80 letters and U+3000, which is White_Space.
-fn letters_and_blank(title: &[u8], source: &[u8]) {
+fn letters_and_blank(to: &impl Print, title: &str, source: &[u8]) -> io::Result<()> {
     let mut list = [0u8; 62];
     let at = node(&mut list, 0, bytes::EXPR_CALL, 0, 83, 5);
     let at = leaf(&mut list, at, bytes::PAREN_OPEN, 0, 0);
     let at = name(&mut list, at, 0, 80);
     let at = leaf(&mut list, at, bytes::WS, 80, 83);
     leaf(&mut list, at, bytes::PAREN_CLOSE, 83, 83);
-    lay(title, source, &list);
+    lay(to, title, source, &list)
 }
 
-pub fn widths() {
+pub fn widths(to: &impl Print) -> io::Result<()> {
     letters(
-        b"P1",
+        to,
+        "P1",
         b"aaaaaaaaaaaaaaaaaaaaaaaaaaaaaaaaaaaaaaaaaaaaaaaaaaaaaaaaaaaaaaaaaaaaaaaaaaaaaaaa",
         80,
-    );
+    )?;
     letters(
-        b"P2",
+        to,
+        "P2",
         b"aaaaaaaaaaaaaaaaaaaaaaaaaaaaaaaaaaaaaaaaaaaaaaaaaaaaaaaaaaaaaaaaaaaaaaaaaaaaaaaaa",
         81,
-    );
+    )?;
     letters_and_blank(
-        b"P3",
+        to,
+        "P3",
         b"aaaaaaaaaaaaaaaaaaaaaaaaaaaaaaaaaaaaaaaaaaaaaaaaaaaaaaaaaaaaaaaaaaaaaaaaaaaaaaaa\xE3\x80\x80",
-    );
+    )
 }
 
 // `(a,b /* k */)`
-fn compact() {
+fn compact(to: &impl Print) -> io::Result<()> {
     let mut list = [0u8; 102];
     let at = node(&mut list, 0, bytes::EXPR_CALL, 0, 13, 9);
     let at = leaf(&mut list, at, bytes::PAREN_OPEN, 0, 1);
@@ -92,11 +96,11 @@ fn compact() {
     let at = leaf(&mut list, at, bytes::WS, 4, 5);
     let at = leaf(&mut list, at, bytes::BLOCK_COMMENT, 5, 12);
     leaf(&mut list, at, bytes::PAREN_CLOSE, 12, 13);
-    lay(b"exprs", b"(a,b /* k */)", &list);
+    lay(to, "exprs", b"(a,b /* k */)", &list)
 }
 
 // `(a // n`, a newline, `)`: the comment is a direct child.
-fn loose() {
+fn loose(to: &impl Print) -> io::Result<()> {
     let mut list = [0u8; 80];
     let at = node(&mut list, 0, bytes::EXPR_CALL, 0, 9, 7);
     let at = leaf(&mut list, at, bytes::PAREN_OPEN, 0, 1);
@@ -105,10 +109,10 @@ fn loose() {
     let at = leaf(&mut list, at, bytes::LINE_COMMENT, 3, 7);
     let at = leaf(&mut list, at, bytes::WS, 7, 8);
     leaf(&mut list, at, bytes::PAREN_CLOSE, 8, 9);
-    lay(b"exprs", b"(a // n\n)", &list);
+    lay(to, "exprs", b"(a // n\n)", &list)
 }
 
-pub fn samples() {
-    compact();
-    loose();
+pub fn samples(to: &impl Print) -> io::Result<()> {
+    compact(to)?;
+    loose(to)
 }

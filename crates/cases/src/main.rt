@@ -9,6 +9,7 @@ use entry::engine;
 use entry::state::{State, fresh};
 use meaning::call::{Call, Hint};
 use say::show;
+use std::io;
 use tree::record::RecordNo;
 
 // A line comment, a block comment and two tokens.
@@ -46,7 +47,15 @@ fn engine_of(len: usize, notes: u32, before: u32, block: bool, lines: u32) -> St
     s
 }
 
-fn run(name: &[u8], first: u8, s: State, c: Call, then: Call, two: bool) {
+fn run(
+    to: &impl Print,
+    name: &str,
+    first: u8,
+    s: State,
+    c: Call,
+    then: Call,
+    two: bool,
+) -> io::Result<()> {
     let mut out = [0u8; 40];
     out[0] = first;
     let src = source();
@@ -58,81 +67,88 @@ fn run(name: &[u8], first: u8, s: State, c: Call, then: Call, two: bool) {
         let y = engine::call(&src, &tree, &mut out, state, then);
         let a = y.answer;
         let state = y.state;
-        show(name, a, state, &out);
+        show(to, name, a, state, &out)
     } else {
-        show(name, a, state, &out);
+        show(to, name, a, state, &out)
     }
 }
 
 // P4 to P7: comments wait.
-fn waiting() {
+fn waiting(to: &impl Print) -> io::Result<()> {
     let z = Call::WriteOwned(RecordNo(3));
     run(
-        b"P4",
+        to,
+        "P4",
         0x61,
         engine_of(1, 1, 0, false, 0),
         Call::Nl(1),
         z,
         false,
-    );
+    )?;
     run(
-        b"P5",
+        to,
+        "P5",
         0x61,
         engine_of(1, 1, 1, false, 0),
         Call::Nl(1),
         z,
         false,
-    );
+    )?;
     run(
-        b"P6",
+        to,
+        "P6",
         0x61,
         engine_of(1, 2, 0, false, 0),
         Call::Ws,
         z,
         false,
-    );
+    )?;
     run(
-        b"P7",
+        to,
+        "P7",
         0x28,
         engine_of(1, 1, 0, true, 0),
         Call::Comments(Hint::Prefix),
         z,
         false,
-    );
+    )
 }
 
 // P8 to P10: none does.
-fn none_waiting() {
+fn none_waiting(to: &impl Print) -> io::Result<()> {
     let z = Call::WriteOwned(RecordNo(3));
     run(
-        b"P8",
+        to,
+        "P8",
         0,
         engine_of(0, 0, 0, false, 0),
         Call::Indent(0xFF),
         z,
         false,
-    );
+    )?;
     run(
-        b"P9",
+        to,
+        "P9",
         0,
         engine_of(0, 0, 0, false, 0),
         Call::Ws,
         Call::WriteOwned(RecordNo(2)),
         true,
-    );
+    )?;
     run(
-        b"P10",
+        to,
+        "P10",
         0x61,
         engine_of(1, 0, 0, false, 5),
         Call::Nl(1),
         z,
         true,
-    );
+    )
 }
 
-fn main() {
-    lists::widths();
-    waiting();
-    none_waiting();
-    lists::samples();
+fn main(rt: HostRuntime) -> io::Result<()> {
+    lists::widths(&rt)?;
+    waiting(&rt)?;
+    none_waiting(&rt)?;
+    lists::samples(&rt)
 }

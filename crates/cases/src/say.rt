@@ -1,12 +1,7 @@
 // One session on a line: the name, the refusal's number or 0, how many comments wait, and the output.
 use entry::state::State;
-use libc::STDOUT_FILENO;
 use meaning::answer::{Answer, Refusal};
-
-fn digit(n: u8) {
-    let d = [0x30 + n % 10];
-    io::write_all(STDOUT_FILENO, &d);
-}
+use std::io;
 
 fn number_of(a: Answer) -> u8 {
     match a {
@@ -18,17 +13,13 @@ fn number_of(a: Answer) -> u8 {
     }
 }
 
-pub fn show(name: &[u8], a: Answer, s: State, out: &[u8]) {
-    io::write_all(STDOUT_FILENO, name);
-    io::write_all(STDOUT_FILENO, b" ");
-    digit(number_of(a));
-    io::write_all(STDOUT_FILENO, b" ");
-    let waiting = s.now.count;
-    digit((waiting % 10) as u8);
-    io::write_all(STDOUT_FILENO, b" [");
+pub fn show(to: &impl Print, name: &str, a: Answer, s: State, out: &[u8]) -> io::Result<()> {
+    let number = number_of(a) % 10;
+    let waiting = s.now.count % 10;
+    print!(to; "{name} {number} {waiting} [")?;
     let n = s.now.len;
     if n <= out.len() {
-        io::write_all(STDOUT_FILENO, &out[0..n]);
+        to.write_all(&out[0..n])?;
     }
-    io::write_all(STDOUT_FILENO, b"]\n");
+    println!(to; "]")
 }

@@ -2,9 +2,15 @@
 // recorded. tests/outside/README.md says what is recorded, and has the file's form.
 #![tactic(auto)]
 
+ghost use Rattle.std.specs.Prelude.{◌≤◌, length};
+
 mod session;
 mod tally;
 
+use std::fs::File;
+use std::io;
+use std::os::unix::fs::FileExt;
+use std::rt::Files;
 use tally::Counts;
 
 // The steps of a file, one behind the other; of each array as much is lent as the file says.
@@ -45,37 +51,50 @@ fn replay(file: &[u8], counts: &mut Counts) {
     );
 }
 
-// A file whole.
-fn read(fd: i32, file: &mut [u8]) -> usize {
-    let got = libc::pread(fd, file, 0);
-    io::count(got, file)
-}
-
-fn replay_file(path: &[u8], counts: &mut Counts) -> bool {
-    let fd = os::open_read(path);
-    if fd < 0 {
-        os::fail(path);
-        return false;
+// What stands of a file, as far as the buffer goes; nothing where it cannot be read.
+fn read(file: &File, to: &mut [u8]) -> usize
+    ensures { result ≤ length to.new }
+{
+    match file.read_at(to, 0) {
+        Ok(n) => n,
+        Err(_) => 0,
     }
-    let mut file = [0u8; 524288];
-    let n = read(fd, &mut file);
-    libc::close(fd);
-    replay(packed::front(&file, n), counts);
-    true
 }
 
-fn main() {
+// Whether there is such a file; of one that cannot be opened standard error tells.
+fn replay_file<R: Files<File = File> + Alloc>(
+    rt: &R,
+    err: &impl Print,
+    path: &[u8],
+    counts: &mut Counts,
+) -> io::Result<bool> {
+    let file = match disk::open(rt, path) {
+        Ok(file) => file,
+        Err(why) => {
+            disk::fail(rt, err, path, why)?;
+            return Ok(false);
+        }
+    };
+    let mut bytes = [0u8; 524288];
+    let n = read(&file, &mut bytes);
+    replay(packed::front(&bytes, n), counts);
+    Ok(true)
+}
+
+fn main(rt: HostRuntime) -> io::Result<()> {
+    let err = rt.stderr();
     let mut counts = tally::none();
-    if replay_file(b"sessions.bin", &mut counts) {
-        tally::report(&counts);
+    if replay_file(&rt, &err, b"sessions.bin", &mut counts)? {
+        tally::report(&rt, &counts)?;
     }
     let mut reasons = tally::none();
-    if replay_file(b"reasons.bin", &mut reasons) {
-        tally::report_reasons(&reasons);
+    if replay_file(&rt, &err, b"reasons.bin", &mut reasons)? {
+        tally::report_reasons(&rt, &reasons)?;
     }
     let mut planted = tally::none();
-    if replay_file(b"planted.bin", &mut planted) {
-        io::write_all(1, b"with wrong records planted: ");
-        tally::report_differ(&planted);
+    if replay_file(&rt, &err, b"planted.bin", &mut planted)? {
+        print!(rt; "with wrong records planted: ")?;
+        tally::report_differ(&rt, &planted)?;
     }
+    Ok(())
 }

@@ -1,4 +1,5 @@
 // What was made, what was answered, what was compared, and what differs.
+use std::io;
 
 // By the number of the answer from 0 on; then as the constants say.
 pub type Counts = [u64; 32];
@@ -64,46 +65,44 @@ fn of(counts: &Counts, i: usize) -> u64 {
     if i < 32 { counts[i] } else { 0 }
 }
 
-fn say(counts: &Counts, i: usize, what: &[u8]) {
-    io::print_decimal(1, of(counts, i));
-    io::write_all(1, what);
+pub fn report_differ(out: &impl Print, counts: &Counts) -> io::Result<()> {
+    let answers = of(counts, ANSWERS_DIFFER);
+    let states = of(counts, STATES_DIFFER);
+    let buffers = of(counts, BUFFERS_DIFFER);
+    println!(out; "{answers} answers, {states} states and {buffers} buffers differ")
 }
 
-pub fn report_differ(counts: &Counts) {
-    say(counts, ANSWERS_DIFFER, b" answers, ");
-    say(counts, STATES_DIFFER, b" states and ");
-    say(counts, BUFFERS_DIFFER, b" buffers differ\n");
-}
-
-fn report_refused(counts: &Counts) {
-    io::write_all(1, b"; refused");
+fn report_refused(out: &impl Print, counts: &Counts) -> io::Result<()> {
+    print!(out; "; refused")?;
     for i in 1..13 {
-        io::write_all(1, b" ");
-        io::print_decimal(1, i as u64);
-        io::write_all(1, b": ");
-        io::print_decimal(1, of(counts, i));
+        let n = of(counts, i);
+        print!(out; " {i}: {n}")?;
     }
-    io::write_all(1, b"\n");
+    println!(out;)
 }
 
-pub fn report(counts: &Counts) {
-    say(counts, OPENED, b" openings, ");
-    say(counts, CALLED, b" calls, ");
-    say(counts, RAN, b" runs: ");
-    say(counts, 0, b" done");
-    report_refused(counts);
-    say(counts, STATE_BYTES, b" bytes of state and ");
-    say(counts, OUT_BYTES, b" bytes of buffer compared: ");
-    report_differ(counts);
+pub fn report(out: &impl Print, counts: &Counts) -> io::Result<()> {
+    let openings = of(counts, OPENED);
+    let calls = of(counts, CALLED);
+    let runs = of(counts, RAN);
+    let done = of(counts, 0);
+    let state = of(counts, STATE_BYTES);
+    let buffer = of(counts, OUT_BYTES);
+    print!(out; "{openings} openings, {calls} calls, {runs} runs: {done} done")?;
+    report_refused(out, counts)?;
+    print!(out; "{state} bytes of state and {buffer} bytes of buffer compared: ")?;
+    report_differ(out, counts)
 }
 
 // Of questions why: what was told.
-pub fn report_reasons(counts: &Counts) {
-    say(counts, ASKED, b" questions why: ");
-    say(counts, 0, b" compact, ");
-    say(counts, WIDE, b" too wide, ");
-    say(counts, COMMENT, b" with a line comment, ");
-    say(counts, SIXTH, b" with a sixth entry");
-    report_refused(counts);
-    report_differ(counts);
+pub fn report_reasons(out: &impl Print, counts: &Counts) -> io::Result<()> {
+    let questions = of(counts, ASKED);
+    let compact = of(counts, 0);
+    let wide = of(counts, WIDE);
+    let comment = of(counts, COMMENT);
+    let sixth = of(counts, SIXTH);
+    print!(out; "{questions} questions why: {compact} compact, {wide} too wide, ")?;
+    print!(out; "{comment} with a line comment, {sixth} with a sixth entry")?;
+    report_refused(out, counts)?;
+    report_differ(out, counts)
 }

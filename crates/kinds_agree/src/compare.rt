@@ -26,13 +26,11 @@ fn is_row(s: &[u8], behind: usize) -> bool {
 // Where the first row from a line on begins, or the length.
 fn next_row(s: &[u8], from: usize, behind: usize) -> usize {
     let mut at = from;
-    let mut turns = s.len();
-    while turns > 0 {
+    for _ in 0..s.len() {
         if is_row(line(s, at), behind) {
             return at;
         }
         at = next_line(s, at);
-        turns -= 1;
     }
     s.len()
 }
@@ -52,8 +50,7 @@ pub fn compare(rows: &[u8], in_table: &[u8], in_document: &[u8]) -> Found {
     let mut at = 0;
     let mut t = 0;
     let mut d = 0;
-    let mut n = 0;
-    while n < 257 {
+    for n in 0..257 {
         t = next_row(in_table, t, 0);
         d = next_row(in_document, d, 2);
         let own = line(rows, at);
@@ -71,7 +68,6 @@ pub fn compare(rows: &[u8], in_table: &[u8], in_document: &[u8]) -> Found {
         at = next_line(rows, at);
         t = next_line(in_table, t);
         d = next_line(in_document, d);
-        n += 1;
     }
     Found::Table(at)
 }

@@ -1,7 +1,6 @@
 // A row of the document: byte, name, the Rust's kind, leaf or composite, what it is, rule, class, semicolon.
-use crate::text::{cell, last_code, number, only, word};
+use crate::text::{cell, last_code, number, only, same, word};
 use crate::words::{is_class, there};
-use check::same;
 use kinds::Kind;
 
 fn record_agrees(cell: &[u8], byte: u8) -> bool {

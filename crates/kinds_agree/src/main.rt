@@ -10,49 +10,50 @@ mod text;
 mod words;
 
 use compare::Found;
-use libc::STDOUT_FILENO;
+use std::fs::File;
+use std::io;
+use std::rt::Files;
 
-// How much of the file stands in the buffer now.
-fn load(path: &[u8], buffer: &mut [u8]) -> usize {
-    let fd = os::open_read(path);
-    if fd < 0 {
-        os::fail(path);
-        return 0;
-    }
-    let n = io::read_full(fd, buffer);
-    libc::close(fd);
-    n
-}
-
-fn differs(list: &[u8], row: &[u8]) {
-    io::write_all(STDOUT_FILENO, list);
-    if row.len() == 0 {
-        io::write_all(STDOUT_FILENO, b" has a row too many\n");
-        return;
-    }
-    io::write_all(STDOUT_FILENO, b" differs at ");
-    io::write_all(STDOUT_FILENO, row);
-    io::write_all(STDOUT_FILENO, b"\n");
-}
-
-fn say(found: Found, rows: &[u8]) {
-    match found {
-        Found::Agree(n) => {
-            io::write_all(STDOUT_FILENO, b"kinds ");
-            io::print_decimal(STDOUT_FILENO, n as u64);
-            io::write_all(STDOUT_FILENO, b": table agrees, document agrees\n");
+// How much of the file stands in the buffer now; of one that cannot be opened standard error tells.
+fn load<R: Files<File = File> + Alloc>(
+    rt: &R,
+    err: &impl Print,
+    path: &[u8],
+    buffer: &mut [u8],
+) -> io::Result<usize> {
+    match disk::open(rt, path) {
+        Ok(mut file) => Ok(disk::fill(&mut file, buffer)),
+        Err(why) => {
+            disk::fail(rt, err, path, why)?;
+            Ok(0)
         }
-        Found::Table(at) => differs(b"the table", text::line(rows, at)),
-        Found::Document(at) => differs(b"the document", text::line(rows, at)),
     }
 }
 
-fn main() {
-    let mut table = io::large_buffer();
-    let mut document = io::large_buffer();
-    let t = load(b"kinds.txt", &mut table);
-    let d = load(b"KINDS.md", &mut document);
+fn differs(out: &impl Print, list: &str, row: &[u8]) -> io::Result<()> {
+    if row.len() == 0 {
+        return println!(out; "{list} has a row too many");
+    }
+    print!(out; "{list} differs at ")?;
+    out.write_all(row)?;
+    println!(out;)
+}
+
+fn say(out: &impl Print, found: Found, rows: &[u8]) -> io::Result<()> {
+    match found {
+        Found::Agree(n) => println!(out; "kinds {n}: table agrees, document agrees"),
+        Found::Table(at) => differs(out, "the table", text::line(rows, at)),
+        Found::Document(at) => differs(out, "the document", text::line(rows, at)),
+    }
+}
+
+fn main(rt: HostRuntime) -> io::Result<()> {
+    let err = rt.stderr();
+    let mut table = [0u8; 65536];
+    let mut document = [0u8; 65536];
+    let t = load(&rt, &err, b"kinds.txt", &mut table)?;
+    let d = load(&rt, &err, b"KINDS.md", &mut document)?;
     let rows = rows::rows();
     let found = compare::compare(&rows, text::part(&table, 0, t), text::part(&document, 0, d));
-    say(found, &rows);
+    say(&rt, found, &rows)
 }

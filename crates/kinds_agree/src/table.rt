@@ -1,7 +1,6 @@
 // A row of the table: NUMBER NAME RUST-KIND [class=C] [semi] [key].
-use crate::text::{number, part, word};
+use crate::text::{number, part, same, word};
 use crate::words::{is_class, there};
-use check::same;
 use kinds::{Class, Kind};
 
 fn is_key(kind: Kind) -> bool {

@@ -1,4 +1,12 @@
 // Lines, words and cells of a text. Every function is total: what is not there is empty.
+ghost use Rattle.std.specs.Prelude.{◌≡◌, ◌↔◌, IsTrue};
+
+// Whether both hold the same bytes.
+pub fn same(a: &[u8], b: &[u8]) -> bool
+    ensures { IsTrue result ↔ (a.now ≡ b.now) }
+{
+    a == b
+}
 
 pub fn part(s: &[u8], from: usize, to: usize) -> &[u8] {
     if from <= to {
@@ -11,33 +19,27 @@ pub fn part(s: &[u8], from: usize, to: usize) -> &[u8] {
 
 // The first place from `from` on that holds b, or the length.
 pub fn find(s: &[u8], from: usize, b: u8) -> usize {
-    let mut i = from;
-    while i < s.len() {
+    for i in from..s.len() {
         if s[i] == b {
             return i;
         }
-        i += 1;
     }
     s.len()
 }
 
 // The first place from `from` on that holds no space, or the length.
 fn skip(s: &[u8], from: usize) -> usize {
-    let mut i = from;
-    while i < s.len() {
+    for i in from..s.len() {
         if s[i] != b' ' {
             return i;
         }
-        i += 1;
     }
     s.len()
 }
 
 // The last place before `to` that holds b, or 0.
 fn back(s: &[u8], to: usize, b: u8) -> usize {
-    let mut i = to;
-    while i > 0 {
-        i -= 1;
+    for i in (0..to).rev() {
         if i < s.len() {
             if s[i] == b {
                 return i;
@@ -49,9 +51,8 @@ fn back(s: &[u8], to: usize, b: u8) -> usize {
 
 // The first bar from `from` on that no backslash stands before, or the length.
 fn bar(s: &[u8], from: usize) -> usize {
-    let mut i = from;
     let mut escaped = false;
-    while i < s.len() {
+    for i in from..s.len() {
         let b = s[i];
         if b == b'|' {
             if !escaped {
@@ -59,7 +60,6 @@ fn bar(s: &[u8], from: usize) -> usize {
             }
         }
         escaped = b == b'\\';
-        i += 1;
     }
     s.len()
 }
@@ -80,10 +80,8 @@ pub fn next_line(s: &[u8], at: usize) -> usize {
 // The word behind n others.
 pub fn word(s: &[u8], n: usize) -> &[u8] {
     let mut at = 0;
-    let mut left = n;
-    while left > 0 {
+    for _ in 0..n {
         at = find(s, skip(s, at), b' ');
-        left -= 1;
     }
     let from = skip(s, at);
     part(s, from, find(s, from, b' '))
@@ -100,10 +98,8 @@ pub fn only(s: &[u8]) -> &[u8] {
 // What stands behind n bars, up to the next.
 pub fn cell(s: &[u8], n: usize) -> &[u8] {
     let mut at = 0;
-    let mut left = n;
-    while left > 0 {
+    for _ in 0..n {
         at = after(s, bar(s, at));
-        left -= 1;
     }
     part(s, at, bar(s, at))
 }

@@ -1,5 +1,5 @@
 // Words that both the table and the document have.
-use check::same;
+use crate::text::same;
 use kinds::Class;
 
 pub fn is_class(word: &[u8], class: Class) -> bool {

@@ -9,37 +9,43 @@
 use entry::state::fresh;
 use format::runs::lay_out;
 use meaning::answer::Answer;
-use telling::files::read;
+use std::io;
+use telling::files::{count, read};
 use telling::refusal;
 
 // The text of a script and its tree; else why there is none.
-fn lay(source: &[u8], tree: &[u8]) {
-    let mut out = [0u8; 524288];
-    let step = lay_out(source, tree, &mut out, fresh());
+fn lay(out: &impl Print, err: &impl Print, source: &[u8], tree: &[u8]) -> io::Result<()> {
+    let mut text = [0u8; 524288];
+    let step = lay_out(source, tree, &mut text, fresh());
     let answer = step.answer;
     match answer {
         Answer::Done => {
             let left = step.state;
-            io::write_all(1, packed::front(&out, left.now.len));
+            out.write_all(packed::front(&text, left.now.len))
         }
-        Answer::Refused(r) => refusal::say(source, tree, r),
+        Answer::Refused(r) => refusal::say(err, source, tree, r),
     }
 }
 
-fn main() {
-    if os::arg_count() != 3 {
-        io::write_all(2, b"usage: lay SCRIPT TREE\n");
-        return;
+fn main(rt: HostRuntime) -> io::Result<()> {
+    let err = rt.stderr();
+    if count(&rt) != 3 {
+        return println!(err; "usage: lay SCRIPT TREE");
     }
     let mut script = [0u8; 65600];
     let mut list = [0u8; 131072];
-    let s = read(1, &mut script);
-    let t = read(2, &mut list);
+    let s = read(&rt, &err, 1, &mut script)?;
+    let t = read(&rt, &err, 2, &mut list)?;
     if 131072 <= t.len {
-        io::write_all(2, b"the tree is longer than any good one\n");
-        return;
+        return println!(err; "the tree is longer than any good one");
     }
     if s.found && t.found {
-        lay(packed::front(&script, s.len), packed::front(&list, t.len));
+        lay(
+            &rt,
+            &err,
+            packed::front(&script, s.len),
+            packed::front(&list, t.len),
+        )?;
     }
+    Ok(())
 }

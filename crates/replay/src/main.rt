@@ -2,21 +2,31 @@
 // oracle/README.md has the file's form.
 #![tactic(auto)]
 
+ghost use Rattle.std.specs.Prelude.{◌≤◌, length};
+
 mod compare;
 mod history;
 mod tally;
 
+use std::fs::File;
+use std::io;
+use std::os::unix::fs::FileExt;
+use std::rt::Files;
 use tally::Counts;
 
-// The file's bytes from an offset on, as many as the window takes.
-fn read(fd: i32, window: &mut [u8], offset: usize) -> usize {
-    let got = libc::pread(fd, window, (offset % 0x4000_0000) as i64);
-    io::count(got, window)
+// The file's bytes from an offset on, as many as the window takes; none where they cannot be read.
+fn read(file: &File, window: &mut [u8], offset: usize) -> usize
+    ensures { result ≤ length window.new }
+{
+    match file.read_at(window, (offset % 0x4000_0000) as u64) {
+        Ok(n) => n,
+        Err(_) => 0,
+    }
 }
 
 // The history at a place of the file, and where the next one stands.
 fn one(
-    fd: i32,
+    file: &File,
     window: &mut [u8],
     source: &mut [u8],
     list: &mut [u8],
@@ -25,7 +35,7 @@ fn one(
     with_runs: bool,
     counts: &mut Counts,
 ) -> usize {
-    let n = read(fd, window, at);
+    let n = read(file, window, at);
     let len = history::run(
         packed::front(window, n),
         source,
@@ -38,7 +48,7 @@ fn one(
 }
 
 fn replay(
-    fd: i32,
+    file: &File,
     window: &mut [u8],
     source: &mut [u8],
     list: &mut [u8],
@@ -46,26 +56,32 @@ fn replay(
     with_runs: bool,
     counts: &mut Counts,
 ) {
-    let n = read(fd, window, 0);
+    let n = read(file, window, 0);
     let count = packed::word(packed::front(window, n), 0);
     let mut at: usize = 4;
     for _ in 0..count {
-        at = one(fd, window, source, list, out, at, with_runs, counts);
+        at = one(file, window, source, list, out, at, with_runs, counts);
     }
 }
 
-fn replay_file(path: &[u8], with_runs: bool, counts: &mut Counts) {
-    let fd = os::open_read(path);
-    if fd < 0 {
-        os::fail(path);
-        return;
-    }
+// What is found of one file; nothing of one that cannot be opened, of which standard error tells.
+fn replay_file<R: Files<File = File> + Alloc>(
+    rt: &R,
+    err: &impl Print,
+    path: &[u8],
+    with_runs: bool,
+    counts: &mut Counts,
+) -> io::Result<()> {
+    let file = match disk::open(rt, path) {
+        Ok(file) => file,
+        Err(why) => return disk::fail(rt, err, path, why),
+    };
     let mut window = [0u8; 131072];
     let mut source = [0u8; 65536];
     let mut list = [0u8; 4096];
     let mut out = [0u8; 8192];
     replay(
-        fd,
+        &file,
         &mut window,
         &mut source,
         &mut list,
@@ -73,33 +89,43 @@ fn replay_file(path: &[u8], with_runs: bool, counts: &mut Counts) {
         with_runs,
         counts,
     );
-    libc::close(fd);
+    Ok(())
 }
 
 // One file, and what was found of it.
-fn report_file(path: &[u8], steps: &[u8], with_runs: bool) {
+fn report_file<R: Files<File = File> + Print + Alloc>(
+    rt: &R,
+    err: &impl Print,
+    path: &[u8],
+    steps: &str,
+    with_runs: bool,
+) -> io::Result<()> {
     let mut counts = tally::none();
-    replay_file(path, with_runs, &mut counts);
-    tally::say(&counts, tally::HISTORIES, b" histories: ");
-    tally::say(&counts, tally::WENT, steps);
-    tally::say(&counts, tally::REFUSED, b" were refused\n  ");
-    tally::report_compared(&counts);
+    replay_file(rt, err, path, with_runs, &mut counts)?;
+    let histories = tally::of(&counts, tally::HISTORIES);
+    let went = tally::of(&counts, tally::WENT);
+    let refused = tally::of(&counts, tally::REFUSED);
+    println!(rt; "{histories} histories: {went} {steps} went, {refused} were refused")?;
+    print!(rt; "  ")?;
+    tally::report_compared(rt, &counts)
 }
 
 // Of each part that is compared there is a record which differs in that part alone.
-fn report_planted(path: &[u8]) {
+fn report_planted<R: Files<File = File> + Print + Alloc>(
+    rt: &R,
+    err: &impl Print,
+    path: &[u8],
+) -> io::Result<()> {
     let mut counts = tally::none();
-    replay_file(path, false, &mut counts);
-    tally::say(
-        &counts,
-        tally::HISTORIES,
-        b" histories with one wrong word, byte or answer each: ",
-    );
-    tally::report_differ(&counts);
+    replay_file(rt, err, path, false, &mut counts)?;
+    let histories = tally::of(&counts, tally::HISTORIES);
+    print!(rt; "{histories} histories with one wrong word, byte or answer each: ")?;
+    tally::report_differ(rt, &counts)
 }
 
-fn main() {
-    report_file(b"calls.bin", b" calls went, ", false);
-    report_file(b"runs.bin", b" calls and runs went, ", true);
-    report_planted(b"planted.bin");
+fn main(rt: HostRuntime) -> io::Result<()> {
+    let err = rt.stderr();
+    report_file(&rt, &err, b"calls.bin", "calls", false)?;
+    report_file(&rt, &err, b"runs.bin", "calls and runs", true)?;
+    report_planted(&rt, &err, b"planted.bin")
 }

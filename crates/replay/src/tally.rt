@@ -1,4 +1,5 @@
 // What went, what was compared, and what differs.
+use std::io;
 
 pub type Counts = [u64; 16];
 
@@ -50,26 +51,28 @@ pub fn add_if(counts: &mut Counts, i: usize, yes: bool) {
     }
 }
 
-pub fn say(counts: &Counts, i: usize, what: &[u8]) {
-    let n = if i < 16 { counts[i] } else { 0 };
-    io::print_decimal(1, n);
-    io::write_all(1, what);
+pub fn of(counts: &Counts, i: usize) -> u64 {
+    if i < 16 { counts[i] } else { 0 }
 }
 
 // Each part that is compared, by itself.
-pub fn report_differ(counts: &Counts) {
-    say(counts, ANSWER, b" answers, ");
-    say(counts, STATE, b" states, ");
-    say(counts, QUEUE, b" queues, ");
-    say(counts, OUTPUT, b" outputs and ");
-    say(counts, BEHIND, b" rests differ\n");
+pub fn report_differ(out: &impl Print, counts: &Counts) -> io::Result<()> {
+    let answers = of(counts, ANSWER);
+    let states = of(counts, STATE);
+    let queues = of(counts, QUEUE);
+    let outputs = of(counts, OUTPUT);
+    let rests = of(counts, BEHIND);
+    print!(out; "{answers} answers, {states} states, {queues} queues, ")?;
+    println!(out; "{outputs} outputs and {rests} rests differ")
 }
 
-pub fn report_compared(counts: &Counts) {
-    say(counts, ANSWERS, b" answers, ");
-    say(counts, STATES, b" states, ");
-    say(counts, COMMENTS, b" waiting comments, ");
-    say(counts, OUTPUT_BYTES, b" bytes of output and ");
-    say(counts, BYTES_BEHIND, b" bytes behind it compared: ");
-    report_differ(counts);
+pub fn report_compared(out: &impl Print, counts: &Counts) -> io::Result<()> {
+    let answers = of(counts, ANSWERS);
+    let states = of(counts, STATES);
+    let comments = of(counts, COMMENTS);
+    let output = of(counts, OUTPUT_BYTES);
+    let behind = of(counts, BYTES_BEHIND);
+    print!(out; "{answers} answers, {states} states, {comments} waiting comments, ")?;
+    print!(out; "{output} bytes of output and {behind} bytes behind it compared: ")?;
+    report_differ(out, counts)
 }

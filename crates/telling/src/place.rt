@@ -1,16 +1,9 @@
 // Where a byte of the source stands: its line and its column, both from 1.
+use std::io;
 use text::lines::count_newlines;
 use text::span::BytePos;
 use tree::record::RecordNo;
 use tree::table::{decode, first, node};
-
-fn say(text: &[u8]) {
-    io::write_all(2, text);
-}
-
-fn number(n: u64) {
-    io::print_decimal(2, n);
-}
 
 // One more, as far as any file goes.
 pub fn more(n: u64) -> u64 {
@@ -43,41 +36,38 @@ pub fn column(source: &[u8], at: usize) -> u64 {
 }
 
 // Line and column of a place in the source, and nothing of one behind its end.
-fn line_and_column(source: &[u8], at: usize) {
+fn line_and_column(out: &impl Print, source: &[u8], at: usize) -> io::Result<()> {
     if source.len() < at {
-        return;
+        return Ok(());
     }
-    say(b", line ");
-    number(line(source, at));
-    say(b", column ");
-    number(column(source, at));
+    let line = line(source, at);
+    let column = column(source, at);
+    print!(out; ", line {line}, column {column}")
 }
 
 // A place that is a byte of the source.
-pub fn at_byte(source: &[u8], p: BytePos) {
-    say(b", at byte ");
-    number(p.0 as u64);
-    line_and_column(source, p.0 as usize);
-    say(b"\n");
+pub fn at_byte(out: &impl Print, source: &[u8], p: BytePos) -> io::Result<()> {
+    let at = p.0;
+    print!(out; ", at byte {at}")?;
+    line_and_column(out, source, at as usize)?;
+    println!(out;)
 }
 
 // A place that is a record: it stands in the source where it starts, unless it is cut, or there is none.
-pub fn at_record(source: &[u8], tree: &[u8], k: RecordNo) {
+pub fn at_record(out: &impl Print, source: &[u8], tree: &[u8], k: RecordNo) -> io::Result<()> {
     let mut words = [0u32; 32768];
     let n = decode(tree, &mut words);
     let r = node(first(&words, n), k);
-    say(b", at record ");
-    number(k.0 as u64);
+    let number = k.0;
+    print!(out; ", at record {number}")?;
     if r.whole {
         let start = r.span.start;
-        line_and_column(source, start.0 as usize);
+        line_and_column(out, source, start.0 as usize)?;
     }
-    say(b"\n");
+    println!(out;)
 }
 
 // A place that is neither: a count of something.
-pub fn at_count(what: &[u8], n: usize) {
-    say(what);
-    number(n as u64);
-    say(b"\n");
+pub fn at_count(out: &impl Print, what: &str, n: usize) -> io::Result<()> {
+    println!(out; "{what}{n}")
 }

@@ -2,6 +2,7 @@
 #![tactic(auto)]
 
 use opening::open::Opening;
+use std::io;
 
 // How many cases agreed, of each answer, and how many did not.
 #[derive(Clone, Copy)]
@@ -47,18 +48,17 @@ fn counted(t: Tally, found: u64, recorded: u64) -> Tally {
     }
 }
 
-fn say(n: u64, what: &[u8]) {
-    io::print_decimal(1, n);
-    io::write_all(1, what);
-}
-
-fn report(t: Tally) {
-    say(t.good, b" good trees, ");
-    say(t.long, b" refused by 1, ");
-    say(t.ill, b" by 2, ");
-    say(t.bad, b" by 3, ");
-    say(t.deep, b" by 7: all as recorded; ");
-    say(t.differ, b" differ\n");
+fn report(out: &impl Print, t: Tally) -> io::Result<()> {
+    let Tally {
+        good,
+        long,
+        ill,
+        bad,
+        deep,
+        differ,
+    } = t;
+    print!(out; "{good} good trees, {long} refused by 1, {ill} by 2, {bad} by 3, {deep} by 7: ")?;
+    println!(out; "all as recorded; {differ} differ")
 }
 
 // The tally with one case more, and where the next one starts.
@@ -98,18 +98,16 @@ fn replay(file: &[u8], source: &mut [u8], list: &mut [u8]) -> Tally {
     n.tally
 }
 
-fn main() {
+fn main(rt: HostRuntime) -> io::Result<()> {
     let path = b"trees.bin";
-    let fd = os::open_read(path);
-    if fd < 0 {
-        os::fail(path);
-        return;
-    }
-    let mut file = [0u8; 262144];
-    let n = io::read_full(fd, &mut file);
-    libc::close(fd);
+    let mut file = match disk::open(&rt, path) {
+        Ok(file) => file,
+        Err(why) => return disk::fail(&rt, &rt.stderr(), path, why),
+    };
+    let mut bytes = [0u8; 262144];
+    let n = disk::fill(&mut file, &mut bytes);
     let mut source = [0u8; 131072];
     let mut list = [0u8; 131072];
-    let t = replay(packed::front(&file, n), &mut source, &mut list);
-    report(t);
+    let t = replay(packed::front(&bytes, n), &mut source, &mut list);
+    report(&rt, t)
 }

@@ -5,6 +5,7 @@
 mod naive;
 
 use encoding::utf8::Formed;
+use std::io;
 
 // White_Space, Unicode's property, code point by code point.
 const WHITES: [u32; 25] = [
@@ -165,21 +166,20 @@ fn behind() -> Tally {
     t
 }
 
-fn say(name: &[u8], t: Tally, yes: &[u8]) {
-    io::write_all(1, name);
-    io::print_decimal(1, t.run);
-    io::write_all(1, b" run, ");
-    io::print_decimal(1, t.yes);
-    io::write_all(1, yes);
-    io::print_decimal(1, t.differ);
-    io::write_all(1, b" differ\n");
+fn say(out: &impl Print, name: &str, t: Tally, yes: &str) -> io::Result<()> {
+    let Tally {
+        run,
+        yes: found,
+        differ,
+    } = t;
+    println!(out; "{name}: {run} run, {found} {yes}, {differ} differ")
 }
 
-fn main() {
-    say(b"code points: ", whites(), b" white, ");
-    say(b"one byte: ", one(), b" well-formed, ");
-    say(b"two bytes: ", two(), b" well-formed, ");
-    say(b"three bytes: ", three(), b" well-formed, ");
-    say(b"four bytes, edges: ", four(), b" well-formed, ");
-    say(b"behind plain bytes: ", behind(), b" well-formed, ");
+fn main(rt: HostRuntime) -> io::Result<()> {
+    say(&rt, "code points", whites(), "white")?;
+    say(&rt, "one byte", one(), "well-formed")?;
+    say(&rt, "two bytes", two(), "well-formed")?;
+    say(&rt, "three bytes", three(), "well-formed")?;
+    say(&rt, "four bytes, edges", four(), "well-formed")?;
+    say(&rt, "behind plain bytes", behind(), "well-formed")
 }

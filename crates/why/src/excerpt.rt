@@ -1,5 +1,7 @@
 // The line of the source in which a byte stands, and a caret under that byte.
 
+use std::io;
+
 // Where the line begins.
 fn line_start(source: &[u8], at: usize) -> usize {
     let mut from: usize = 0;
@@ -69,17 +71,17 @@ fn fill(source: &[u8], from: usize, to: usize, blank: bool, row: &mut [u8]) -> u
 }
 
 // Such a row, set in by four spaces.
-fn draw(source: &[u8], from: usize, to: usize, blank: bool) {
+fn draw(out: &impl Print, source: &[u8], from: usize, to: usize, blank: bool) -> io::Result<()> {
     let mut row = [0u8; 65600];
     let n = fill(source, from, to, blank, &mut row);
-    io::write_all(1, b"    ");
-    io::write_all(1, packed::front(&row, n));
+    out.write_all(b"    ")?;
+    out.write_all(packed::front(&row, n))
 }
 
-pub fn show(source: &[u8], at: usize) {
+pub fn show(out: &impl Print, source: &[u8], at: usize) -> io::Result<()> {
     let from = line_start(source, at);
-    draw(source, from, line_end(source, at), false);
-    io::write_all(1, b"\n");
-    draw(source, from, at, true);
-    io::write_all(1, b"^\n");
+    draw(out, source, from, line_end(source, at), false)?;
+    println!(out;)?;
+    draw(out, source, from, at, true)?;
+    println!(out; "^")
 }

@@ -14,37 +14,49 @@ use entry::checks::opening;
 use loose::reason::is_loose;
 use meaning::answer::{Answer, Refusal};
 use reasons::why::{Why, why_at};
-use telling::files::read;
+use std::io;
+use std::rt::Env;
+use telling::files::{count, read, word};
 use telling::place::more;
 use telling::refusal;
 use tree::record::RecordNo;
 use tree::table::{decode, first};
 
 // A refusal in words that fit the question.
-fn refused(source: &[u8], tree: &[u8], r: Refusal) {
+fn refused(err: &impl Print, source: &[u8], tree: &[u8], r: Refusal) -> io::Result<()> {
     match r {
         Refusal::NoRule(_) => refusal::say_as(
+            err,
             source,
             tree,
             r,
-            b"the node is none of the lists that are told of: a call's arguments, arrays, objects",
+            "the node is none of the lists that are told of: a call's arguments, arrays, objects",
         ),
         Refusal::WrongKind(_) => refusal::say_as(
+            err,
             source,
             tree,
             r,
-            b"the object does not begin with its name, a path or #",
+            "the object does not begin with its name, a path or #",
         ),
-        _ => refusal::say(source, tree, r),
+        _ => refusal::say(err, source, tree, r),
     }
 }
 
 // The list of one node.
-fn one(name: &[u8], source: &[u8], tree: &[u8], table: &[u32], k: RecordNo) {
+fn one(
+    out: &impl Print,
+    err: &impl Print,
+    name: &[u8],
+    source: &[u8],
+    tree: &[u8],
+    table: &[u32],
+    k: RecordNo,
+) -> io::Result<()> {
     let w = why_at(source, table, k);
     match w {
-        Why::Because(r) => sentence::tell(name, source, table, k, r),
-        Why::Refused(r) => refused(source, tree, r),
+        Why::Because(r) => sentence::tell(out, name, source, table, k, r),
+        Why::Refused(r) => refused(err, source, tree, r),
     }
 }
 
@@ -56,7 +68,7 @@ struct Seen {
 }
 
 // One more list, which goes over several lines or not.
-fn count(s: Seen, broken: bool) -> Seen {
+fn counted(s: Seen, broken: bool) -> Seen {
     if broken {
         return Seen {
             lists: more(s.lists),
@@ -71,89 +83,113 @@ fn count(s: Seen, broken: bool) -> Seen {
 }
 
 // A record of the script: most are no list, and are passed over.
-fn visit(name: &[u8], source: &[u8], tree: &[u8], table: &[u32], k: RecordNo, s: Seen) -> Seen {
+fn visit(
+    out: &impl Print,
+    err: &impl Print,
+    name: &[u8],
+    source: &[u8],
+    tree: &[u8],
+    table: &[u32],
+    k: RecordNo,
+    s: Seen,
+) -> io::Result<Seen> {
     let w = why_at(source, table, k);
     match w {
         Why::Because(r) => {
             let broken = is_loose(r);
             if broken {
-                sentence::tell(name, source, table, k, r);
+                sentence::tell(out, name, source, table, k, r)?;
             }
-            count(s, broken)
+            Ok(counted(s, broken))
         }
+        Why::Refused(Refusal::NoRule(_)) => Ok(s),
         Why::Refused(r) => {
-            match r {
-                Refusal::NoRule(_) => {}
-                _ => refused(source, tree, r),
-            }
-            s
+            refused(err, source, tree, r)?;
+            Ok(s)
         }
     }
 }
 
-fn all(name: &[u8], source: &[u8], tree: &[u8], table: &[u32], n: RecordNo) {
+fn all(
+    out: &impl Print,
+    err: &impl Print,
+    name: &[u8],
+    source: &[u8],
+    tree: &[u8],
+    table: &[u32],
+    n: RecordNo,
+) -> io::Result<()> {
     let mut s = Seen {
         lists: 0,
         broken: 0,
     };
     for i in 0..n.0 {
-        s = visit(name, source, tree, table, RecordNo(i), s);
+        s = visit(out, err, name, source, tree, table, RecordNo(i), s)?;
     }
-    sentence::total(name, s.broken, s.lists);
+    sentence::total(out, name, s.broken, s.lists)
 }
 
 // The node that the third argument names; `digits::NONE` where it is no number.
-fn node_number() -> RecordNo {
+fn node_number(rt: &impl Env) -> RecordNo {
     let mut text = [0u8; 16];
-    let len = os::arg(3, &mut text);
+    let len = word(rt, 3, &mut text);
     RecordNo(digits::number(packed::front(&text, len)))
 }
 
 // Of an opened script all lists, or one.
-fn why(name: &[u8], source: &[u8], tree: &[u8]) {
+fn why<R: Env + Print>(
+    rt: &R,
+    err: &impl Print,
+    name: &[u8],
+    source: &[u8],
+    tree: &[u8],
+) -> io::Result<()> {
     let a = opening(source, tree);
     match a {
         Answer::Done => {
             let mut words = [0u32; 32768];
             let n = decode(tree, &mut words);
-            if os::arg_count() == 4 {
-                one(name, source, tree, first(&words, n), node_number());
+            let table = first(&words, n);
+            if count(rt) == 4 {
+                one(rt, err, name, source, tree, table, node_number(rt))
             } else {
-                all(name, source, tree, first(&words, n), n);
+                all(rt, err, name, source, tree, table, n)
             }
         }
-        Answer::Refused(r) => refused(source, tree, r),
+        Answer::Refused(r) => refused(err, source, tree, r),
     }
 }
 
 // Two files, and a node's number or none.
-fn is_usage() -> bool {
-    if os::arg_count() == 4 {
-        return node_number().0 != digits::NONE;
+fn is_usage(rt: &impl Env) -> bool {
+    if count(rt) == 4 {
+        return node_number(rt).0 != digits::NONE;
     }
-    os::arg_count() == 3
+    count(rt) == 3
 }
 
-fn main() {
-    if !is_usage() {
-        io::write_all(2, b"usage: why SCRIPT TREE [NODE]\n");
-        return;
+fn main(rt: HostRuntime) -> io::Result<()> {
+    let err = rt.stderr();
+    if !is_usage(&rt) {
+        return println!(err; "usage: why SCRIPT TREE [NODE]");
     }
     let mut script = [0u8; 65600];
     let mut list = [0u8; 131072];
-    let s = read(1, &mut script);
-    let t = read(2, &mut list);
+    let s = read(&rt, &err, 1, &mut script)?;
+    let t = read(&rt, &err, 2, &mut list)?;
     if 131072 <= t.len {
-        io::write_all(2, b"the tree is longer than any good one\n");
-        return;
+        return println!(err; "the tree is longer than any good one");
     }
     if s.found && t.found {
-        let mut name = io::buffer();
-        let n = os::arg(1, &mut name);
+        let mut name = [0u8; 4096];
+        let n = word(&rt, 1, &mut name);
         why(
+            &rt,
+            &err,
             packed::front(&name, n),
             packed::front(&script, s.len),
             packed::front(&list, t.len),
-        );
+        )?;
     }
+    Ok(())
 }

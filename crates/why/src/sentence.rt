@@ -2,18 +2,11 @@
 use crate::excerpt;
 use kinds::bytes;
 use loose::reason::Reason;
+use std::io;
 use telling::place::{column, line};
 use text::span::BytePos;
 use tree::record::RecordNo;
 use tree::table::{kind_at, node};
-
-fn say(text: &[u8]) {
-    io::write_all(1, text);
-}
-
-fn say_number(n: u64) {
-    io::print_decimal(1, n);
-}
 
 // Where a record starts.
 fn start(table: &[u32], k: RecordNo) -> BytePos {
@@ -21,84 +14,98 @@ fn start(table: &[u32], k: RecordNo) -> BytePos {
 }
 
 // FILE:LINE:COLUMN of a byte.
-fn say_place(name: &[u8], source: &[u8], at: BytePos) {
-    say(name);
-    say(b":");
-    say_number(line(source, at.0 as usize));
-    say(b":");
-    say_number(column(source, at.0 as usize));
-    say(b": ");
+fn say_place(out: &impl Print, name: &[u8], source: &[u8], at: BytePos) -> io::Result<()> {
+    let line = line(source, at.0 as usize);
+    let column = column(source, at.0 as usize);
+    out.write_all(name)?;
+    print!(out; ":{line}:{column}: ")
+}
+
+// What the list holds.
+fn what(table: &[u32], k: RecordNo) -> &'static str {
+    match kind_at(table, k) {
+        bytes::EXPR_CALL => "the list of arguments",
+        bytes::EXPR_ARRAY => "the array",
+        _ => "the object",
+    }
 }
 
 // Which list it is: what it holds, where it begins, its node.
-fn say_list(source: &[u8], table: &[u32], k: RecordNo) {
-    match kind_at(table, k) {
-        bytes::EXPR_CALL => say(b"the list of arguments"),
-        bytes::EXPR_ARRAY => say(b"the array"),
-        _ => say(b"the object"),
-    }
+fn say_list(out: &impl Print, source: &[u8], table: &[u32], k: RecordNo) -> io::Result<()> {
+    let what = what(table, k);
     let at = start(table, k);
-    say(b" that begins at ");
-    say_number(line(source, at.0 as usize));
-    say(b":");
-    say_number(column(source, at.0 as usize));
-    say(b", node ");
-    say_number(k.0 as u64);
-    say(b", ");
+    let line = line(source, at.0 as usize);
+    let column = column(source, at.0 as usize);
+    let number = k.0;
+    print!(out; "{what} that begins at {line}:{column}, node {number}, ")
 }
 
 // The whole sentence, and under it the line of the source with a caret.
-fn point(name: &[u8], source: &[u8], table: &[u32], k: RecordNo, at: BytePos, words: &[u8]) {
-    say_place(name, source, at);
-    say_list(source, table, k);
-    say(words);
-    say(b"\n");
-    excerpt::show(source, at.0 as usize);
+fn point(
+    out: &impl Print,
+    name: &[u8],
+    source: &[u8],
+    table: &[u32],
+    k: RecordNo,
+    at: BytePos,
+    words: &str,
+) -> io::Result<()> {
+    say_place(out, name, source, at)?;
+    say_list(out, source, table, k)?;
+    println!(out; "{words}")?;
+    excerpt::show(out, source, at.0 as usize)
 }
 
-pub fn tell(name: &[u8], source: &[u8], table: &[u32], k: RecordNo, r: Reason) {
+pub fn tell(
+    out: &impl Print,
+    name: &[u8],
+    source: &[u8],
+    table: &[u32],
+    k: RecordNo,
+    r: Reason,
+) -> io::Result<()> {
     match r {
         Reason::Wide(p) => point(
+            out,
             name,
             source,
             table,
             k,
             p,
-            b"is too wide for one line: this is the 81st of its characters, white space not counted",
+            "is too wide for one line: this is the 81st of its characters, white space not counted",
         ),
         Reason::Comment(c) => point(
+            out,
             name,
             source,
             table,
             k,
             start(table, c),
-            b"holds a line comment, behind which nothing can stand on its line",
+            "holds a line comment, behind which nothing can stand on its line",
         ),
         Reason::Sixth(c) => point(
+            out,
             name,
             source,
             table,
             k,
             start(table, c),
-            b"has more than five entries: this is the sixth",
+            "has more than five entries: this is the sixth",
         ),
         Reason::Fits => point(
+            out,
             name,
             source,
             table,
             k,
             start(table, k),
-            b"stands on one line: it has at most 80 characters, white space not counted, at most five entries and no line comment",
+            "stands on one line: it has at most 80 characters, white space not counted, at most five entries and no line comment",
         ),
     }
 }
 
 // How many of the lists go over several lines.
-pub fn total(name: &[u8], broken: u64, lists: u64) {
-    say(name);
-    say(b": ");
-    say_number(broken);
-    say(b" of ");
-    say_number(lists);
-    say(b" lists go over several lines, an entry to a line\n");
+pub fn total(out: &impl Print, name: &[u8], broken: u64, lists: u64) -> io::Result<()> {
+    out.write_all(name)?;
+    println!(out; ": {broken} of {lists} lists go over several lines, an entry to a line")
 }
