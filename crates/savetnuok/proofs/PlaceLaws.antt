@@ -17,6 +17,7 @@ use Rattle.meaning.specs.declared.call.Call.TheVariants.{WriteOwned, WriteRaw, I
 use Rattle.meaning.specs.declared.answer.Refusal.{Refusal}
 use Rattle.meaning.specs.declared.answer.Answer.{Answer}
 use Rattle.meaning.specs.declared.answer.Answer.TheVariants.{Done, Refused}
+use Rattle.meaning.specs.declared.answer.Refusal.TheVariants.{BadCall}
 use Rattle.meaning.specs.State.{Script, Comment, State}
 use Rattle.meaning.specs.Pieces.{Piece, Emit}
 use Rattle.meaning.specs.Outcome.{Outcome, done, refused, refuse_if}
@@ -103,7 +104,7 @@ module _ {indent : ℕ} (x : Script) (cap : ℕ) (s : State) (own-len : s.len �
 
   asked_placed : (d : Option Call) → Placed indent (asked 0 d (step x cap s))
   unfolding step
-  asked_placed none = stops refl
+  asked_placed none = stops {r = BadCall 0} refl
   asked_placed (some c) = refuse_placed _ _ own-len (there_placed (named_by c) (act_placed c))
 
   pub step_placed : (c : Call) → Placed indent (step x cap s c)

@@ -1,0 +1,5 @@
+-- `savetnuok::savetnuok_layout` meets its contract: it is `laid`, told what is wanted. Assumes nothing.
+use Rattle.savetnuok.proofs.savetnuok_layout.Goals as goal
+
+pub returns : goal.returns
+returns c = c.laid.ensures

@@ -1,7 +1,0 @@
--- `savetnuok::savetnuok_run` meets its contract: it is `laid`, told what is wanted. Assumes nothing.
-use Rattle.text.proofs.Base.{needs}
-use Rattle.savetnuok.proofs.savetnuok_run.Statement.{statement}
-use Rattle.savetnuok.proofs.savetnuok_run.Tie as tie
-
-pub savetnuok_run_spec : {M : Type 1} → statement M
-savetnuok_run_spec = tie.close (tie.spec (λ c κs. search needs) (λ c. search needs) (λ c. search needs) (λ c. c.before.before.before.before.laid.ensures))
