@@ -75,9 +75,11 @@ fn replay_file<R: Files<File = File> + Alloc>(
             return Ok(false);
         }
     };
-    let mut bytes = [0u8; 524288];
-    let n = read(&file, &mut bytes);
-    replay(packed::front(&bytes, n), counts);
+    // Room for 524,288 bytes in rows: the prover counts the bytes of a row one by one.
+    let mut rows = [[0u8; 4096]; 128];
+    let bytes = rows.as_flattened_mut();
+    let n = read(&file, bytes);
+    replay(packed::front(bytes, n), counts);
     Ok(true)
 }
 

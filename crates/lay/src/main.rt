@@ -15,13 +15,15 @@ use telling::refusal;
 
 // The text of a script and its tree; else why there is none.
 fn lay(out: &impl Print, err: &impl Print, source: &[u8], tree: &[u8]) -> io::Result<()> {
-    let mut text = [0u8; 524288];
-    let step = lay_out(source, tree, &mut text, fresh());
+    // Room for 524,288 bytes in rows: the prover counts the bytes of a row one by one.
+    let mut rows = [[0u8; 4096]; 128];
+    let text = rows.as_flattened_mut();
+    let step = lay_out(source, tree, text, fresh());
     let answer = step.answer;
     match answer {
         Answer::Done => {
             let left = step.state;
-            out.write_all(packed::front(&text, left.now.len))
+            out.write_all(packed::front(text, left.now.len))
         }
         Answer::Refused(r) => refusal::say(err, source, tree, r),
     }
