@@ -1,4 +1,6 @@
 -- A list of call records, record by record. Assumes nothing.
+use Rattle.lent.specs.declared.formatter.Formatter.{Formatter}
+use Rattle.std.specs.Prelude.{Ok}
 use mathlib.Core.Path.{◌≡◌, refl, sym, ap, ◌∙◌}
 use mathlib.Core.Bool.{Bool, true, false, cond, ◌&&◌, ◌||◌}
 use mathlib.Core.List.{List, [], ◌∷◌}
@@ -9,45 +11,23 @@ use native.Mathlib.Omega.{arith}
 use lib.Dec.{eqb, leb}
 use lib.ListN.{length, take, drop, get_or, length-take, length-drop, drop_of_length-le}
 use lib.Seq.{drop-drop, get_or-drop, take_all}
-use borrow.Author.Tests.{le-leb, lt-leb, ne_eqb, leb-true, leb-false}
+use borrow.Author.Tests.{leb-true, leb-false}
 use Rattle.tree.specs.declared.record.RecordNo.{RecordNo}
 use Rattle.tree.specs.Table.{tree_of, room_of, fitting, Decoded}
 use Rattle.meaning.specs.declared.call.Call.{Call}
-use Rattle.entry.specs.declared.decode.Decoded as read
+use Rattle.std.specs.Prelude as read
 use Rattle.entry.specs.declared.state.State as code
-use Rattle.meaning.specs.declared.answer.Answer.TheVariants.{Done}
 use Rattle.meaning.specs.State.{Script, fresh}
 use Rattle.meaning.specs.CallRecord.{decode}
 use Rattle.meaning.specs.World.{opened, Result, result}
 use Rattle.meaning.specs.Plan.{Plan, nothing, ◌then◌, exec}
 use Rattle.lent.specs.View.{tab, script_of}
-use Rattle.lent.specs.Words.{run_of}
 use Rattle.lent.specs.Loans.{Engine, engine, reads, Makes}
 use Rattle.entry.specs.Served.{encoded, started_run, as_call}
 use Rattle.bench.specs.Packed.{reached_as}
 use Rattle.bench.specs.History.{body_len, asked_at, calls_from, calls_in, script_at, replayed, Replayed}
 
 -- ---- how long a record is
-
-pub body_none : (k : ℕ) → k ≡ 0 → 0 ≡ body_len k
-unfolding body_len
-body_none k h = rw h
-
-pub body_four : (k : ℕ) → (k ≡ 0 → ⊥) → k < 0x04 → 4 ≡ body_len k
-unfolding body_len
-body_four k g h = rw (le-leb 0x01 k (omega arith), le-leb k 0x03 (omega arith))
-
-pub body_one : (k : ℕ) → 0x04 ≤ k → k < 0x08 → 1 ≡ body_len k
-unfolding body_len
-body_one k g h = rw (le-leb 0x01 k (omega arith), lt-leb k 0x03 (omega arith), le-leb 0x04 k g, le-leb k 0x07 (omega arith))
-
-pub body_nine : (k : ℕ) → k ≡ 0x09 → 1 ≡ body_len k
-unfolding body_len
-body_nine k h = rw h
-
-pub body_rest : (k : ℕ) → 0x08 ≤ k → (k ≡ 0x09 → ⊥) → 0 ≡ body_len k
-unfolding body_len
-body_rest k g h = rw (le-leb 0x01 k (omega arith), lt-leb k 0x03 (omega arith), le-leb 0x04 k (omega arith), lt-leb k 0x07 (omega arith), ne_eqb k 0x09 h)
 
 pub body_most : (k : ℕ) → body_len k ≤ 4
 unfolding body_len
@@ -127,7 +107,7 @@ pub record Going (x : Script) (bytes : List ℕ) (e₀ e : Engine) (at : ℕ) : 
 pub going_none : {x : Script} {bytes : List ℕ} {e : Engine} → Going x bytes e e 0
 going_none = record { within = omega arith; same = refl }
 
-pub going_more : {x : Script} {bytes : List ℕ} {e₀ e e' : Engine} {at : ℕ} {t : List ℕ} (d : read.Decoded) → Going x bytes e₀ e at → (h : at < length bytes)
+pub going_more : {x : Script} {bytes : List ℕ} {e₀ e e' : Engine} {at : ℕ} {t : List ℕ} (d : read.Option Call) → Going x bytes e₀ e at → (h : at < length bytes)
     → (q : t ≡ take (1 + body_len (get_or bytes at 0)) (drop at bytes)) → as_call d ≡ decode t → Makes x (asked_at at (as_call d)) e e' → Going x bytes e₀ e' (at + length t)
 unfolding exec
 going_more {x} {bytes} {e₀} {e} {e'} {at} {t} d g h q a k = record {
@@ -142,7 +122,7 @@ going_end {x} {bytes} {e₀} {e} {at} g h = record { ran = record { ran = ap (λ
 -- ---- on a fresh engine
 
 -- whatever the ring holds
-pub starts_fresh : {s : code.State} → s ≡ encoded fresh → (w : List ℕ) → run_of w ≡ started_run s.now Done → (q b : List ℕ) → reads (engine w q b) ≡ result Done (opened b)
+pub starts_fresh : {s : code.State} → s ≡ encoded fresh → (w : Formatter) → w ≡ started_run s.now (Ok tt) → (q b : List ℕ) → reads (engine w q b) ≡ result (Ok tt) (opened b)
 unfolding reads tab
 starts_fresh es w er q b = rw (er, es)
 
@@ -151,8 +131,8 @@ module _ (src tree words table : List ℕ) {n : RecordNo} (d : Decoded tree word
   unfolding fitting room_of
   tree_is = rw et (d.reads ∙ rw room)
 
-  pub replays : (bytes b : List ℕ) {s : code.State} → s ≡ encoded fresh → {w w' q b' : List ℕ} {z : ℕ} → run_of w ≡ started_run s.now Done → Makes (script_of src tb) (calls_in bytes) (engine w s.queue b) (engine w' q b')
-      → z ≡ reached_as (run_of w').answer (run_of w').len → Replayed src tree bytes b z b'
+  pub replays : (bytes b : List ℕ) {s : code.State} → s ≡ encoded fresh → {w w' : Formatter} {q b' : List ℕ} {z : ℕ} → w ≡ started_run s.now (Ok tt) → Makes (script_of src tb) (calls_in bytes) (engine w s.queue b) (engine w' q b')
+      → z ≡ reached_as w'.answer w'.len → Replayed src tree bytes b z b'
   unfolding reads
   replays bytes b {s} es {w} {w'} {q} {b'} er h ez =
       let e : reads (engine w' q b') ≡ replayed src tree bytes b = h.ran.ran ∙ rw (tree_is, starts_fresh es w er s.queue b) in

@@ -1,10 +1,9 @@
 -- A list of call records end to end, as the plan of its calls in order, executed on a fresh engine. Assumes nothing.
-use Rattle.std.specs.Prelude.{◌≡◌, ℕ, zero, suc, cond, ◌&&◌, ◌||◌, List, [], ◌∷◌, take, eqb, leb}
+use Rattle.std.specs.Prelude.{◌≡◌, ℕ, zero, suc, cond, ◌&&◌, ◌||◌, List, [], ◌∷◌, take, eqb, leb, Ok}
 use Rattle.std.proofs.Math.Option.{Option, none, some}
 use Rattle.tree.specs.Records.{records}
 use Rattle.meaning.specs.declared.call.Call.{Call}
 use Rattle.meaning.specs.declared.answer.Refusal.TheVariants.{BadCall}
-use Rattle.meaning.specs.declared.answer.Answer.TheVariants.{Done}
 use Rattle.meaning.specs.State.{Script}
 use Rattle.meaning.specs.CallRecord.{decode}
 use Rattle.meaning.specs.World.{opened, Result, result}
@@ -35,7 +34,7 @@ script_at src tree = record { source = src; tree = take 8192 (records tree) }
 
 -- the list's calls from a fresh engine on, over the buffer b
 abbrev pub replayed : List ℕ → List ℕ → List ℕ → List ℕ → Result
-replayed src tree bytes b = exec (script_at src tree) (calls_in bytes) (result Done (opened b))
+replayed src tree bytes b = exec (script_at src tree) (calls_in bytes) (result (Ok tt) (opened b))
 
 -- the number that comes back and the whole buffer are those of the plan
 pub record Replayed (src tree bytes b : List ℕ) (n : ℕ) (b' : List ℕ) : Type 0 where

@@ -1,6 +1,5 @@
 -- The calls of a run or of a whole layout made again and again, each time on a fresh engine. Assumes nothing.
-use Rattle.std.specs.Prelude.{◌≡◌, ℕ, zero, suc, List}
-use Rattle.meaning.specs.declared.answer.Answer.TheVariants.{Done}
+use Rattle.std.specs.Prelude.{◌≡◌, ℕ, zero, suc, List, Ok}
 use Rattle.meaning.specs.State.{Script}
 use Rattle.meaning.specs.World.{opened, Result, result}
 use Rattle.meaning.specs.Plan.{Plan, exec}
@@ -10,8 +9,8 @@ use Rattle.bench.specs.History.{script_at}
 
 -- over the buffer b, so many times; each begins over the bytes that the one before left
 unfoldable pub repeated : Script → Plan → ℕ → List ℕ → Result
-repeated x p zero b = result Done (opened b)
-repeated x p (suc n) b = exec x p (result Done (opened (repeated x p n b).left.buffer))
+repeated x p zero b = result (Ok tt) (opened b)
+repeated x p (suc n) b = exec x p (result (Ok tt) (opened (repeated x p n b).left.buffer))
 
 -- the calls of a plan, which hangs on the script
 abbrev pub laid_out : List ℕ → List ℕ → List ℕ → (Script → Plan) → ℕ → Result

@@ -5,28 +5,22 @@ ghost use Rattle.lent.specs.Loans.{Made};
 ghost use Rattle.bench.specs.History.{body_len, asked_at, calls_in};
 
 use calls::make_call;
-use entry::decode::{Decoded, decode};
-use lent::formatter::{Formatter, refuse};
+use entry::decode::decode;
+use lent::formatter::Formatter;
 use lent::ring::Queue;
 use meaning::answer::Refusal;
+use meaning::call::Call;
 
 // How many bytes stand behind a byte of kind: none behind an unknown one.
+#[tactic(auto, unfolding(crate::specs::History::body_len))]
 fn body(kind: u8) -> usize
     ensures { result ≡ body_len kind }
 {
-    if kind == 0 {
-        return 0;
+    match kind {
+        0x01..=0x03 => 4,
+        0x04..=0x07 | 0x09 => 1,
+        _ => 0,
     }
-    if kind < 0x04 {
-        return 4;
-    }
-    if kind < 0x08 {
-        return 1;
-    }
-    if kind == 0x09 {
-        return 1;
-    }
-    0
 }
 
 // The record at a byte of the list, as far as the list goes.
@@ -49,14 +43,14 @@ fn asked(
     fmt: &mut Formatter,
     queue: &mut Queue,
     out: &mut [u8],
-    d: Decoded,
+    d: Option<Call>,
     at: usize,
 )
     ensures { Made src table fmt queue out (asked_at at (as_call d)) }
 {
     match d {
-        Decoded::Made(c) => make_call(src, table, fmt, queue, out, c),
-        Decoded::Unknown => refuse(fmt, Refusal::BadCall(at)),
+        Some(c) => make_call(src, table, fmt, queue, out, c),
+        None => fmt.refuse(Refusal::BadCall(at)),
     }
 }
 
@@ -72,6 +66,7 @@ pub fn replay(
     ensures { Made src table fmt queue out (calls_in records.now) }
 {
     let mut at: usize = 0;
+    // No `for`: the step is a record's length.
     while at < records.len() {
         let t = record_at(records, at);
         asked(src, table, fmt, queue, out, decode(t), at);

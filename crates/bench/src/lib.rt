@@ -1,6 +1,7 @@
 // What the measurements call: the checks, the count, opening and a list of calls, each without the work of a public function around it.
 #![tactic(auto)]
 
+mod again;
 pub mod history;
 pub mod pack;
 
@@ -14,12 +15,10 @@ ghost use Rattle.bench.specs.History.{Replayed};
 ghost use Rattle.rules.specs.Whole.{whole};
 ghost use Rattle.bench.specs.Repeated.{Repeats, on_node};
 
+use crate::again::{WholeScript, again};
 use crate::history::replay;
 use crate::pack::{finding, pack, reached};
 use entry::state::{fresh, started};
-use meaning::answer::Answer;
-use rules::node::layout;
-use rules::whole::whole;
 use tree::record::RecordNo;
 use tree::table::{decode, first};
 
@@ -57,7 +56,7 @@ pub extern "C" fn bench_calls(source: &[u8], tree: &[u8], out: &mut [u8], record
     let s = fresh();
     let now = s.now;
     let mut queue = s.queue;
-    let mut fmt = started(now, Answer::Done);
+    let mut fmt = started(now, Ok(()));
     replay(source, first(&words, n), &mut fmt, &mut queue, out, records);
     reached(&fmt)
 }
@@ -73,20 +72,7 @@ pub extern "C" fn bench_runs(
 ) -> u64
     ensures { Repeats source.now tree.now out.old (on_node node) times result out.new }
 {
-    let mut words = [0u32; 32768];
-    let n = decode(tree, &mut words);
-    let s = fresh();
-    let now = s.now;
-    let mut queue = s.queue;
-    let mut fmt = started(now, Answer::Done);
-    let table = first(&words, n);
-    let mut i: u32 = 0;
-    while i < times {
-        fmt = started(now, Answer::Done);
-        layout(source, table, &mut fmt, &mut queue, out, RecordNo(node));
-        i += 1;
-    }
-    reached(&fmt)
+    again(source, tree, out, RecordNo(node), times)
 }
 
 // Whole layouts, as the runs.
@@ -94,18 +80,5 @@ pub extern "C" fn bench_runs(
 pub extern "C" fn bench_layouts(source: &[u8], tree: &[u8], out: &mut [u8], times: u32) -> u64
     ensures { Repeats source.now tree.now out.old whole times result out.new }
 {
-    let mut words = [0u32; 32768];
-    let n = decode(tree, &mut words);
-    let s = fresh();
-    let now = s.now;
-    let mut queue = s.queue;
-    let mut fmt = started(now, Answer::Done);
-    let table = first(&words, n);
-    let mut i: u32 = 0;
-    while i < times {
-        fmt = started(now, Answer::Done);
-        whole(source, table, &mut fmt, &mut queue, out);
-        i += 1;
-    }
-    reached(&fmt)
+    again(source, tree, out, WholeScript, times)
 }

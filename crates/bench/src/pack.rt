@@ -1,11 +1,10 @@
 // An answer as one number.
 ghost use Rattle.std.specs.Prelude.{◌≡◌};
 ghost use Rattle.meaning.specs.Numbers.{seen};
-ghost use Rattle.lent.specs.Words.{run_of};
 ghost use Rattle.bench.specs.Packed.{packed, found, reached_as};
 
-use encoding::utf8::Formed;
-use lent::formatter::{Formatter, answer, len, stopped};
+use encoding::utf8::IllFormed;
+use lent::formatter::Formatter;
 use meaning::answer::{Answer, number, place};
 
 // The number of a refusal above 32 bits of its place.
@@ -18,21 +17,21 @@ pub fn pack(a: Answer) -> u64
 }
 
 // Well-formed, or the place.
-pub fn finding(f: Formed) -> u64
+pub fn finding(f: Result<(), IllFormed>) -> u64
     ensures { result ≡ found f }
 {
     match f {
-        Formed::Well => 0xFFFFFFFFFFFFFFFF,
-        Formed::Ill(at) => at as u64,
+        Ok(()) => 0xFFFFFFFFFFFFFFFF,
+        Err(e) => e.at as u64,
     }
 }
 
 // What calls or runs came to: the refusal, or the output's length.
 pub fn reached(fmt: &Formatter) -> u64
-    ensures { result ≡ reached_as (run_of fmt.now).answer (run_of fmt.now).len }
+    ensures { result ≡ reached_as fmt.now.answer fmt.now.len }
 {
-    if stopped(fmt) {
-        return pack(answer(fmt));
+    if fmt.stopped() {
+        return pack(fmt.answer);
     }
-    len(fmt) as u64 % 0x100000000
+    fmt.len as u64 % 0x100000000
 }

@@ -7,15 +7,15 @@ ghost use Rattle.bodies.specs.Body.{body, item_struct, variant, variants, item_e
 use crate::fields::{struct_body, tuple_body};
 use crate::lines::{before_line, end_lines};
 use calls::{comments, indent, lit, ws};
-use kinds::bytes;
-use lent::formatter::{Formatter, refuse};
+use kinds::{Kind, bytes};
+use lent::formatter::Formatter;
 use lent::ring::Queue;
 use meaning::answer::Refusal;
 use meaning::call::{Hint, Literal};
 use steps::remaining::{Mark, put_remaining};
 use tree::record::RecordNo;
 use tree::table::kind_at;
-use walk::stream::{Stream, left_over, next_is, pump, records_of};
+use walk::stream::{Stream, records_of};
 use walk::tokens::{any, spaced_if, token, token_if};
 
 // The body of a struct or of a variant; an empty one is not walked.
@@ -29,7 +29,7 @@ fn body(
 )
     ensures { Walked src table fmt queue out p (pump (body (tree table))) }
 {
-    let k = pump(table, fmt, p);
+    let k = p.pump(table, fmt);
     let kind = kind_at(table, k);
     match kind {
         bytes::STRUCT_BODY => {
@@ -38,7 +38,7 @@ fn body(
         }
         bytes::TUPLE_BODY => tuple_body(src, table, fmt, queue, out, k),
         bytes::EMPTY_BODY => {}
-        _ => refuse(fmt, Refusal::WrongKind(k)),
+        _ => fmt.refuse(Refusal::WrongKind(k)),
     }
 }
 
@@ -53,8 +53,8 @@ pub fn item_struct(
 )
     ensures { Walked src table fmt queue out p (item_struct (tree table)) }
 {
-    token(src, table, fmt, queue, out, p, bytes::KW_STRUCT);
-    spaced_if(src, table, fmt, queue, out, p, bytes::IDENT);
+    token(src, table, fmt, queue, out, p, Kind::Struct);
+    spaced_if(src, table, fmt, queue, out, p, Kind::Ident);
     body(src, table, fmt, queue, out, p);
 }
 
@@ -71,9 +71,9 @@ pub fn variant(
 {
     let mut p = records_of(table, k);
     comments(src, table, fmt, queue, out, Hint::Line);
-    token_if(src, table, fmt, queue, out, &mut p, bytes::IDENT);
+    token_if(src, table, fmt, queue, out, &mut p, Kind::Ident);
     body(src, table, fmt, queue, out, &mut p);
-    left_over(table, fmt, &p);
+    p.left_over(table, fmt);
 }
 
 // The variants of an enum, from its brace to the other.
@@ -90,15 +90,15 @@ fn variants(
     any(src, table, fmt, queue, out, p);
     indent(src, table, fmt, queue, out, 1);
     let mut seen = false;
-    while next_is(table, p, bytes::VARIANT) {
+    while p.next_is(table, Kind::Variant) {
         before_line(src, table, fmt, queue, out);
-        let n = pump(table, fmt, p);
+        let n = p.pump(table, fmt);
         variant(src, table, fmt, queue, out, n);
         put_remaining(src, table, fmt, queue, out, p, Mark::Comma);
         seen = true;
     }
     end_lines(src, table, fmt, queue, out, seen);
-    token(src, table, fmt, queue, out, p, bytes::BRACE_CLOSE);
+    token(src, table, fmt, queue, out, p, Kind::CloseBrace);
 }
 
 // An enum without a brace gets both.
@@ -112,10 +112,10 @@ pub fn item_enum(
 )
     ensures { Walked src table fmt queue out p (item_enum (tree table)) }
 {
-    token(src, table, fmt, queue, out, p, bytes::KW_ENUM);
-    spaced_if(src, table, fmt, queue, out, p, bytes::IDENT);
+    token(src, table, fmt, queue, out, p, Kind::Enum);
+    spaced_if(src, table, fmt, queue, out, p, Kind::Ident);
     ws(src, table, fmt, queue, out);
-    if next_is(table, p, bytes::BRACE_OPEN) {
+    if p.next_is(table, Kind::OpenBrace) {
         variants(src, table, fmt, queue, out, p);
         return;
     }

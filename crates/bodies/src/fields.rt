@@ -6,14 +6,14 @@ ghost use Rattle.bodies.specs.Body.{field, struct_body, tuple_body};
 
 use crate::lines::{before_line, end_lines};
 use calls::{comments, indent};
-use kinds::bytes;
+use kinds::Kind;
 use lent::formatter::Formatter;
 use lent::ring::Queue;
 use meaning::call::Hint;
 use steps::items::{before_item, behind_item, close_list};
-use steps::remaining::{Mark, fresh, put_remaining};
+use steps::remaining::{Mark, Remaining, put_remaining};
 use tree::record::RecordNo;
-use walk::stream::{left_over, next_is, pump, records_of};
+use walk::stream::records_of;
 use walk::tokens::{any, token};
 
 // A field's one node.
@@ -29,7 +29,7 @@ fn field(
 {
     let mut p = records_of(table, k);
     any(src, table, fmt, queue, out, &mut p);
-    left_over(table, fmt, &p);
+    p.left_over(table, fmt);
 }
 
 // Fields on lines of their own.
@@ -44,20 +44,20 @@ pub fn struct_body(
     ensures { Made src table fmt queue out (parse (tree table) (struct_body (tree table)) k) }
 {
     let mut p = records_of(table, k);
-    token(src, table, fmt, queue, out, &mut p, bytes::BRACE_OPEN);
+    token(src, table, fmt, queue, out, &mut p, Kind::OpenBrace);
     indent(src, table, fmt, queue, out, 1);
     comments(src, table, fmt, queue, out, Hint::Line);
     let mut seen = false;
-    while next_is(table, &p, bytes::FIELD) {
+    while p.next_is(table, Kind::Field) {
         before_line(src, table, fmt, queue, out);
-        let n = pump(table, fmt, &mut p);
+        let n = p.pump(table, fmt);
         field(src, table, fmt, queue, out, n);
         put_remaining(src, table, fmt, queue, out, &mut p, Mark::Comma);
         seen = true;
     }
     end_lines(src, table, fmt, queue, out, seen);
-    token(src, table, fmt, queue, out, &mut p, bytes::BRACE_CLOSE);
-    left_over(table, fmt, &p);
+    token(src, table, fmt, queue, out, &mut p, Kind::CloseBrace);
+    p.left_over(table, fmt);
 }
 
 // Fields in parentheses.
@@ -72,16 +72,16 @@ pub fn tuple_body(
     ensures { Made src table fmt queue out (parse (tree table) (tuple_body (tree table)) k) }
 {
     let mut p = records_of(table, k);
-    token(src, table, fmt, queue, out, &mut p, bytes::PAREN_OPEN);
-    let mut comma = fresh();
-    while next_is(table, &p, bytes::FIELD) {
+    token(src, table, fmt, queue, out, &mut p, Kind::OpenParenthesis);
+    let mut comma = Remaining::Fresh;
+    while p.next_is(table, Kind::Field) {
         before_item(src, table, fmt, queue, out, comma);
-        let n = pump(table, fmt, &mut p);
+        let n = p.pump(table, fmt);
         field(src, table, fmt, queue, out, n);
         comma = behind_item(src, table, fmt, queue, out, &mut p);
     }
     close_list(src, table, fmt, queue, out, comma);
-    token(src, table, fmt, queue, out, &mut p, bytes::PAREN_CLOSE);
+    token(src, table, fmt, queue, out, &mut p, Kind::CloseParenthesis);
     comments(src, table, fmt, queue, out, Hint::Suffix);
-    left_over(table, fmt, &p);
+    p.left_over(table, fmt);
 }

@@ -29,7 +29,7 @@ pub fn before_line(
 fn lines(any: bool) -> u8
     ensures { result ≡ lines any }
 {
-    if any { 1 } else { 0 }
+    u8::from(any)
 }
 
 // Behind the last: a new line if there was an item, and back out; the byte 255 is one level less.

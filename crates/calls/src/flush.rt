@@ -3,67 +3,57 @@ ghost use Rattle.std.specs.Prelude.{◌≡◌, []};
 ghost use Rattle.meaning.specs.Flush.{breaking, flush_gap};
 ghost use Rattle.lent.specs.Run.{flushed_run};
 ghost use Rattle.lent.specs.View.{view, gap_bytes};
-ghost use Rattle.lent.specs.Words.{run_of};
 ghost use Rattle.queue.specs.Parts.{Put};
 
-use lent::formatter::{
-    Formatter, clear, indent, len, lines, refused, set_len, set_ws, spaced, stopped, use_lines,
-};
-use lent::room::{Gap, lay, line_break, no_gap, one_space, passes};
+use lent::formatter::Formatter;
+use lent::room::{Gap, lay, line_break, passes};
 use meaning::answer::Refusal;
 
 // Newlines are due: `use_lines`, and `lines` is not 0.
 fn breaking(fmt: &Formatter) -> bool
-    ensures { result ≡ breaking (view (run_of fmt.now) []) }
+    ensures { result ≡ breaking (view fmt.now []) }
 {
-    if use_lines(fmt) {
-        return 0 < lines(fmt);
-    }
-    false
+    fmt.use_lines && 0 < fmt.lines
 }
 
 // The white space that is due.
 pub fn due(fmt: &Formatter) -> Gap
-    ensures { gap_bytes result ≡ flush_gap (view (run_of fmt.now) []) }
+    ensures { gap_bytes result ≡ flush_gap (view fmt.now []) }
 {
     if breaking(fmt) {
-        return line_break(indent(fmt), lines(fmt));
+        line_break(fmt.indent, fmt.lines)
+    } else if fmt.ws {
+        Gap::SPACE
+    } else {
+        Gap::NONE
     }
-    if spaced(fmt) {
-        return one_space();
-    }
-    no_gap()
 }
 
 // What a flush leaves of the three hints.
 fn flush(fmt: &mut Formatter, preserve: bool)
-    ensures { run_of fmt.new ≡ flushed_run preserve (run_of fmt.old) }
+    ensures { fmt.new ≡ flushed_run preserve fmt.old }
 {
-    if preserve {
-        if breaking(fmt) {
-            clear(fmt);
-            return;
-        }
-        set_ws(fmt, false);
-        return;
+    if preserve && !breaking(fmt) {
+        fmt.ws = false;
+    } else {
+        fmt.clear();
     }
-    clear(fmt);
 }
 
 // The white space that is due, and a text.
 pub fn put(fmt: &mut Formatter, out: &mut [u8], preserve: bool, t: &[u8])
     ensures { Put fmt out preserve t }
 {
-    if stopped(fmt) {
+    if fmt.stopped() {
         return;
     }
-    let at = len(fmt);
+    let at = fmt.len;
     let gap = due(fmt);
     if passes(out.len(), at, gap, t.len()) {
-        refused(fmt, Refusal::NoRoom(at));
+        fmt.refused(Refusal::NoRoom(at));
         return;
     }
     let to = lay(out, at, gap, t);
     flush(fmt, preserve);
-    set_len(fmt, to);
+    fmt.len = to;
 }

@@ -1,20 +1,16 @@
 // The eleven calls. All have one list of parameters and one contract: what is left is what the plan of this one call leaves.
+// The five parameters that every call and rule is lent are not one struct yet: docs/DESIGN-PASS.md says what is to do there.
 #![tactic(auto)]
 
 pub mod flush;
 
-ghost use Rattle.std.specs.Prelude.{◌≡◌};
 ghost use Rattle.meaning.specs.Plan.{make};
-ghost use Rattle.queue.specs.Passes.{way_of};
 ghost use Rattle.lent.specs.Loans.{Made};
 
 use crate::flush::{due, put};
-use lent::formatter::{
-    Formatter, close, collected, count, indent as indent_of, len, lines, refused, set_indent,
-    set_len, set_lines, set_use_lines, set_ws, stopped, stops, stops_for, written,
-};
+use lent::formatter::Formatter;
 use lent::ring::Queue;
-use lent::room::{lay, no_gap, passes};
+use lent::room::{Gap, lay, passes};
 use lent::wording::{LITERALS, Wording, text};
 use meaning::answer::Refusal;
 use meaning::call::{Call, Hint, Literal};
@@ -35,22 +31,22 @@ pub fn write_owned(
 )
     ensures { Made src table fmt queue out (make (Call.WriteOwned k)) }
 {
-    if stops_for(table, fmt, k) {
+    if fmt.stops_for(table, k) {
         return;
     }
-    let at = len(fmt);
+    let at = fmt.len;
     let gap = due(fmt);
     let span = node(table, k).span;
     let t = text(src, &LITERALS, Wording::Node(span));
     if passes(out.len(), at, gap, t.len()) {
-        refused(fmt, Refusal::NoRoom(at));
+        fmt.refused(Refusal::NoRoom(at));
         return;
     }
     if process_comments(src, table, fmt, queue, behind(table, k), 0) {
         return;
     }
     let to = lay(out, at, gap, t);
-    written(fmt, to);
+    fmt.written(to);
 }
 
 // The same without the white space: output.rs 164 to 168.
@@ -64,22 +60,22 @@ pub fn write_raw(
 )
     ensures { Made src table fmt queue out (make (Call.WriteRaw k)) }
 {
-    if stops_for(table, fmt, k) {
+    if fmt.stops_for(table, k) {
         return;
     }
-    let at = len(fmt);
-    let gap = no_gap();
+    let at = fmt.len;
+    let gap = Gap::NONE;
     let span = node(table, k).span;
     let t = text(src, &LITERALS, Wording::Node(span));
     if passes(out.len(), at, gap, t.len()) {
-        refused(fmt, Refusal::NoRoom(at));
+        fmt.refused(Refusal::NoRoom(at));
         return;
     }
-    if process_comments(src, table, fmt, queue, behind(table, k), lines(fmt)) {
+    if process_comments(src, table, fmt, queue, behind(table, k), fmt.lines) {
         return;
     }
     let to = lay(out, at, gap, t);
-    set_len(fmt, to);
+    fmt.len = to;
 }
 
 // Nothing is written; what stands behind the node is collected: output.rs 150 to 153.
@@ -93,10 +89,10 @@ pub fn ignore(
 )
     ensures { Made src table fmt queue out (make (Call.Ignore k)) }
 {
-    if stops_for(table, fmt, k) {
+    if fmt.stops_for(table, k) {
         return;
     }
-    process_comments(src, table, fmt, queue, behind(table, k), lines(fmt));
+    process_comments(src, table, fmt, queue, behind(table, k), fmt.lines);
 }
 
 // A literal keeps the lines that it did not write: output.rs 171 to 177.
@@ -110,7 +106,7 @@ pub fn lit(
 )
     ensures { Made src table fmt queue out (make (Call.Lit l)) }
 {
-    stops(fmt);
+    fmt.stops();
     put(fmt, out, true, text(src, &LITERALS, Wording::Literal(l)));
 }
 
@@ -125,20 +121,8 @@ pub fn flush_whitespace(
 )
     ensures { Made src table fmt queue out (make (Call.FlushWhitespace preserve)) }
 {
-    stops(fmt);
+    fmt.stops();
     put(fmt, out, preserve, &src[..0]);
-}
-
-// How a hint lets comments out.
-fn way_of(h: Hint) -> Way
-    ensures { result ≡ way_of h }
-{
-    match h {
-        Hint::Line => Way::Lines(false),
-        Hint::Prefix => Way::Spaces(false, true),
-        Hint::Suffix => Way::Spaces(true, false),
-        Hint::Infix => Way::Spaces(false, false),
-    }
 }
 
 // By the hint: output.rs 180 to 205.
@@ -152,11 +136,12 @@ pub fn comments(
 )
     ensures { Made src table fmt queue out (make (Call.Comments h)) }
 {
-    stops(fmt);
-    release(src, fmt, queue, out, way_of(h));
+    fmt.stops();
+    release(src, fmt, queue, out, Way::from(h));
 }
 
-// The byte is a signed one; `indent` stays from 0 to 64.
+// The byte is a signed one; `indent` stays from 0 to 64. By the two cases of the meaning's `signed`: as a sum of signed bytes it is no
+// plainer, since up and down are refused at different bounds.
 pub fn indent(
     src: &[u8],
     table: &[u32],
@@ -167,51 +152,49 @@ pub fn indent(
 )
     ensures { Made src table fmt queue out (make (Call.Indent d)) }
 {
-    if stops(fmt) {
+    if fmt.stops() {
         return;
     }
-    let i = indent_of(fmt) as u32;
+    let i = fmt.indent as u32;
     let b = d as u32;
     if b < 0x80 {
         if 64 < i + b {
-            refused(fmt, Refusal::IndentOut(i));
+            fmt.refused(Refusal::IndentOut(i));
             return;
         }
-        set_indent(fmt, (i + b) as u8);
+        fmt.indent = (i + b) as u8;
         return;
     }
     if i < 0x100 - b {
-        refused(fmt, Refusal::IndentOut(i));
+        fmt.refused(Refusal::IndentOut(i));
         return;
     }
-    set_indent(fmt, (i - (0x100 - b)) as u8);
+    fmt.indent = (i - (0x100 - b)) as u8;
 }
 
 // An offer of n newlines: the script's own count wins.
 pub fn nl(src: &[u8], table: &[u32], fmt: &mut Formatter, queue: &mut Queue, out: &mut [u8], n: u8)
     ensures { Made src table fmt queue out (make (Call.Nl n)) }
 {
-    stops(fmt);
+    fmt.stops();
     if n == 0 {
         return;
     }
     release(src, fmt, queue, out, Way::Lines(true));
-    if stopped(fmt) {
-        return;
+    if !fmt.stopped() {
+        fmt.set_lines(or_else(fmt.lines, n as u32));
     }
-    set_lines(fmt, or_else(lines(fmt), n as u32));
 }
 
 // A space is due, behind the comments that a space may follow: output.rs 246 to 250.
 pub fn ws(src: &[u8], table: &[u32], fmt: &mut Formatter, queue: &mut Queue, out: &mut [u8])
     ensures { Made src table fmt queue out (make Call.Ws) }
 {
-    stops(fmt);
+    fmt.stops();
     release(src, fmt, queue, out, Way::Spaces(true, false));
-    if stopped(fmt) {
-        return;
+    if !fmt.stopped() {
+        fmt.ws = true;
     }
-    set_ws(fmt, true);
 }
 
 // Refused while it lets comments out, it has not collected them.
@@ -224,32 +207,31 @@ pub fn flush_prefix_comments(
 )
     ensures { Made src table fmt queue out (make Call.FlushPrefixComments) }
 {
-    if stops(fmt) {
+    if fmt.stops() {
         return;
     }
-    let before = lines(fmt);
-    let waiting = count(fmt);
+    let before = fmt.lines;
+    let waiting = fmt.count;
     if process_comments(src, table, fmt, queue, RecordNo(0), before) {
         return;
     }
     release_waiting(src, fmt, queue, out, Way::Lines(false));
-    if stopped(fmt) {
-        collected(fmt, before, waiting);
+    if fmt.stopped() {
+        fmt.collected(before, waiting);
         return;
     }
-    set_use_lines(fmt, 0 < lines(fmt));
+    fmt.use_lines = 0 < fmt.lines;
 }
 
 // All that waits goes, and no call is taken any more; the Rust does so where the whole layout ends.
 pub fn finish(src: &[u8], table: &[u32], fmt: &mut Formatter, queue: &mut Queue, out: &mut [u8])
     ensures { Made src table fmt queue out (make Call.Finish) }
 {
-    stops(fmt);
+    fmt.stops();
     release_waiting(src, fmt, queue, out, Way::Lines(false));
-    if stopped(fmt) {
-        return;
+    if !fmt.stopped() {
+        fmt.finished = true;
     }
-    close(fmt);
 }
 
 // Any call.

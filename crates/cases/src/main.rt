@@ -14,8 +14,7 @@ use tree::record::RecordNo;
 
 // A line comment, a block comment and two tokens.
 fn source() -> [u8; 13] {
-    let s = b"// n/* b */az";
-    *s
+    *b"// n/* b */az"
 }
 
 // The tree over it: leaves 01, 02, 03, 03.
@@ -53,37 +52,28 @@ fn run(
     first: u8,
     s: State,
     c: Call,
-    then: Call,
-    two: bool,
+    then: Option<Call>,
 ) -> io::Result<()> {
     let mut out = [0u8; 40];
     out[0] = first;
     let src = source();
     let tree = leaves();
-    let z = engine::call(&src, &tree, &mut out, s, c);
-    let a = z.answer;
-    let state = z.state;
-    if two {
-        let y = engine::call(&src, &tree, &mut out, state, then);
-        let a = y.answer;
-        let state = y.state;
-        show(to, name, a, state, &out)
-    } else {
-        show(to, name, a, state, &out)
+    let mut step = engine::call(&src, &tree, &mut out, s, c);
+    if let Some(then) = then {
+        step = engine::call(&src, &tree, &mut out, step.state, then);
     }
+    show(to, name, step.answer, step.state, &out)
 }
 
 // P4 to P7: comments wait.
 fn waiting(to: &impl Print) -> io::Result<()> {
-    let z = Call::WriteOwned(RecordNo(3));
     run(
         to,
         "P4",
         0x61,
         engine_of(1, 1, 0, false, 0),
         Call::Nl(1),
-        z,
-        false,
+        None,
     )?;
     run(
         to,
@@ -91,40 +81,28 @@ fn waiting(to: &impl Print) -> io::Result<()> {
         0x61,
         engine_of(1, 1, 1, false, 0),
         Call::Nl(1),
-        z,
-        false,
+        None,
     )?;
-    run(
-        to,
-        "P6",
-        0x61,
-        engine_of(1, 2, 0, false, 0),
-        Call::Ws,
-        z,
-        false,
-    )?;
+    run(to, "P6", 0x61, engine_of(1, 2, 0, false, 0), Call::Ws, None)?;
     run(
         to,
         "P7",
         0x28,
         engine_of(1, 1, 0, true, 0),
         Call::Comments(Hint::Prefix),
-        z,
-        false,
+        None,
     )
 }
 
 // P8 to P10: none does.
 fn none_waiting(to: &impl Print) -> io::Result<()> {
-    let z = Call::WriteOwned(RecordNo(3));
     run(
         to,
         "P8",
         0,
         engine_of(0, 0, 0, false, 0),
         Call::Indent(0xFF),
-        z,
-        false,
+        None,
     )?;
     run(
         to,
@@ -132,8 +110,7 @@ fn none_waiting(to: &impl Print) -> io::Result<()> {
         0,
         engine_of(0, 0, 0, false, 0),
         Call::Ws,
-        Call::WriteOwned(RecordNo(2)),
-        true,
+        Some(Call::WriteOwned(RecordNo(2))),
     )?;
     run(
         to,
@@ -141,8 +118,7 @@ fn none_waiting(to: &impl Print) -> io::Result<()> {
         0x61,
         engine_of(1, 0, 0, false, 5),
         Call::Nl(1),
-        z,
-        true,
+        Some(Call::WriteOwned(RecordNo(3))),
     )
 }
 

@@ -5,11 +5,9 @@ use std::io;
 
 fn number_of(a: Answer) -> u8 {
     match a {
-        Answer::Done => 0,
-        Answer::Refused(r) => match r {
-            Refusal::IndentOut(_) => 6,
-            _ => 99,
-        },
+        Ok(()) => 0,
+        Err(Refusal::IndentOut(_)) => 6,
+        Err(_) => 99,
     }
 }
 

@@ -13,13 +13,12 @@ const NO_TEXT: i32 = 84;
 
 // The file of that name, to be read.
 pub fn open<R: Files<File = File>>(rt: &R, name: &[u8]) -> io::Result<File> {
-    match std::str::from_utf8(name) {
-        Ok(path) => File::open(rt, path),
-        Err(_) => Err(io::Error::from_raw_os_error(NO_TEXT)),
-    }
+    let path = std::str::from_utf8(name).map_err(|_| io::Error::from_raw_os_error(NO_TEXT))?;
+    File::open(rt, path)
 }
 
-// Reads until the buffer is full, the file ends or a read fails: how many bytes stand in the buffer then.
+// Reads until the buffer is full, the file ends or a read fails: how many bytes stand in the buffer then. No heap, so no `read_to_end`, and
+// `read_exact` refuses a file that ends before the buffer.
 pub fn fill(file: &mut File, to: &mut [u8]) -> usize
     ensures { result ≤ length to.new }
 {
@@ -36,10 +35,8 @@ pub fn fill(file: &mut File, to: &mut [u8]) -> usize
 
 // The words of an error, without the number that stands behind them.
 fn words(text: &str) -> &str {
-    match text.split_once(" (os error ") {
-        Some((front, _)) => front,
-        None => text,
-    }
+    text.split_once(" (os error ")
+        .map_or(text, |(front, _)| front)
 }
 
 // A line for the operator: the file that could not be opened, and why.

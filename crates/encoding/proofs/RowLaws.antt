@@ -12,7 +12,7 @@ use lib.Seq.{drop-cons}
 use borrow.Author.Tests.{eqb-true, lt-ltb, le-ltb}
 use Rattle.encoding.specs.Utf8.{Range, Row, ◌⋯◌, cont, in_range, table, all_in, len_by, second, char_len}
 use Rattle.encoding.specs.Walk.{ByteIn}
-use Rattle.white.proofs.Bools.{and_l, and_r, and_true, below_at}
+use Rattle.white.proofs.Bools.{and_l, and_r, and_assoc, and_true, below_at}
 
 -- ---- ranges at a place
 
@@ -37,11 +37,12 @@ all_join r rs s i t u p q = ap₂ ◌&&◌ p q ∙ sym (all_cons r rs s i)
 pub all_two : (r q : Range) (s : List ℕ) (i : ℕ) (t u : Bool) → t ≡ all_in (r ∷ []) (drop (i + 1) s) → u ≡ all_in (q ∷ []) (drop (i + 2) s) → t && u ≡ all_in (r ∷ q ∷ []) (drop (i + 1) s)
 all_two r q s i t u p e = let n : i + 1 + 1 ≡ i + 2 = omega arith in all_join r (q ∷ []) s (i + 1) t u p (rw n e)
 
-pub all_three : (r q o : Range) (s : List ℕ) (i : ℕ) (t u v : Bool) → t ≡ all_in (r ∷ []) (drop (i + 1) s) → u ≡ all_in (q ∷ []) (drop (i + 2) s) → v ≡ all_in (o ∷ []) (drop (i + 3) s) → t && (u && v) ≡ all_in (r ∷ q ∷ o ∷ []) (drop (i + 1) s)
-all_three r q o s i t u v p e f =
-    let n : i + 1 + 1 ≡ i + 2 = omega arith in
-    let m : i + 2 + 1 ≡ i + 3 = omega arith in
-    all_join r (q ∷ o ∷ []) s (i + 1) t (u && v) p (rw n (all_join q (o ∷ []) s (i + 2) u v e (rw m f)))
+pub all_three : (r q o : Range) (s : List ℕ) (i : ℕ) (t u : Bool) → t ≡ all_in (r ∷ q ∷ []) (drop (i + 1) s) → u ≡ all_in (o ∷ []) (drop (i + 3) s) → t && u ≡ all_in (r ∷ q ∷ o ∷ []) (drop (i + 1) s)
+all_three r q o s i t u p e =
+    let n : i + 3 ≡ i + 1 + 1 + 1 = omega arith in
+    ap₂ ◌&&◌ (p ∙ all_cons r (q ∷ []) s (i + 1)) (rw n at e)
+    ∙ and_assoc (all_in (r ∷ []) (drop (i + 1) s)) (all_in (q ∷ []) (drop (i + 1 + 1) s)) (all_in (o ∷ []) (drop (i + 1 + 1 + 1) s))
+    ∙ all_join r (q ∷ o ∷ []) s (i + 1) (all_in (r ∷ []) (drop (i + 1) s)) _ refl (sym (all_cons q (o ∷ []) s (i + 1 + 1)))
 
 pub all_one : (r : Range) (s : List ℕ) (i : ℕ) → i < length s → all_in (r ∷ []) (drop i s) ≡ in_range r (get_or s i 0)
 unfolding all_in

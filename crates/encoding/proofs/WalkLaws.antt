@@ -1,21 +1,19 @@
 -- The check of a text, run by run: what is passed changes nothing of what is found. Assumes nothing.
 use mathlib.Core.Path.{◌≡◌, refl, sym, ap, ◌∙◌}
-use mathlib.Core.Logic.{⊎_elim}
 use mathlib.Core.Bool.{Bool, true, false, ◌&&◌}
 use mathlib.Core.List.{List, [], ◌∷◌}
 use Prim.Native.Nat.{ℕ, zero, suc, pred, ◌+◌, ◌-◌, ◌≤◌, ◌<◌, zero-le}
 use native.Mathlib.Nat.{add-zero, add-suc, suc-add}
 use native.Mathlib.Numerals.{add-one}
 use native.Mathlib.Omega.{arith}
-use lib.Dec.{leb, ltb}
+use lib.Dec.{ltb}
 use lib.ListN.{length, take, drop, get_or, length-drop, drop_of_length-le}
 use lib.Bits.{bit_or, or_lt, or_add_and, and_le_l, and_le_r}
 use lib.Seq.{drop-cons, drop-drop}
-use borrow.Author.Tests.{le-leb, leb-true, leb-false, ltb-true, ltb-false, lt-ltb, le-ltb}
-use Rattle.encoding.specs.declared.utf8.Formed.TheVariants.{Well, Ill}
-use Rattle.encoding.specs.Utf8.{table, all_in, len_by, char_len, at_lead, formed_from, all_plain}
-use Rattle.encoding.specs.Walk.{Past, PlainTo}
-use Rattle.white.proofs.Bools.{and_l, and_r, and_assoc, and_true, le_or_lt}
+use borrow.Author.Tests.{le-leb, ltb-true, ltb-false, lt-ltb, le-ltb}
+use Rattle.encoding.specs.Utf8.{Well, Ill, table, all_in, len_by, char_len, at_lead, formed_from, all_plain}
+use Rattle.encoding.specs.Walk.{Past}
+use Rattle.white.proofs.Bools.{and_l, and_r, and_assoc, and_true}
 use Rattle.encoding.proofs.RowLaws.{char_fits, char_one}
 
 -- ---- the first ill-formed place
@@ -100,15 +98,3 @@ past_block n {s} {from} {i} p h e =
 
 pub past_byte : {s : List ℕ} {from i : ℕ} → Past s from i → i < length s → get_or s i 0 < 0x80 → Past s from (i + 1)
 past_byte {s} {from} {i} p h l = past_char {n = 1} p h (sym (char_one (record { here = h; low = zero-le; high = l }))) (λ z. omega arith)
-
--- a run that began at a byte over 7F and came to a plain one has moved
-pub moved : (s : List ℕ) (from i : ℕ) → from ≤ i → get_or s i 0 < 0x80 → 0x80 ≤ get_or s from 0 → from < i
-moved s from i h a b = ⊎_elim (λ l. let e : i ≡ from = omega arith in absurd (omega (arith, rw e at a))) (λ l. l) (le_or_lt i from)
-
--- a turn of both kinds of run goes on
-pub falls : {s : List ℕ} {i a j : ℕ} → i < length s → PlainTo s i a → Past s a j → (a < length s → 0x80 ≤ get_or s a 0 → a < j) → length s - j < length s - i
-falls {s} {i} {a} {j} h p q m = go (leb (length s) a) refl
-  where
-    go : (t : Bool) → leb (length s) a ≡ t → length s - j < length s - i
-    go true e = omega (arith, leb-true (length s) a e, p.past.forth, q.forth)
-    go false e = let l = leb-false (length s) a e in omega (arith, p.past.forth, m l (p.stops l))

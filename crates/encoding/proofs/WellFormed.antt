@@ -4,16 +4,15 @@ use mathlib.Core.Path.{◌≡◌, refl, sym, ap, ◌∙◌, subst}
 use mathlib.Core.Logic.{◌⊎◌, inl, inr, ⊎_elim}
 use mathlib.Core.Bool.{Bool, true, false, cond, ◌&&◌, ◌||◌, true≢false, false≢true}
 use mathlib.Core.List.{List, [], ◌∷◌, ◌++◌}
-use Prim.Native.Nat.{ℕ, zero, suc, pred, ◌+◌, ◌-◌, ◌≤◌, ◌<◌}
+use Prim.Native.Nat.{ℕ, zero, suc, pred, ◌+◌, ◌≤◌, ◌<◌}
 use native.Mathlib.Nat.{not-suc-le-zero, suc-add}
 use native.Mathlib.Omega.{arith}
 use lib.Dec.{leb, eqb}
 use lib.ListN.{length, take, drop, take-append-drop, length-drop}
 use lib.Seq.{length-take-le, drop-append_seam, drop-drop, take-add}
 use borrow.Author.Tests.{leb-true, lt-leb, eqb-true, eq-eqb}
-use Rattle.encoding.specs.declared.utf8.Formed.{Formed}
-use Rattle.encoding.specs.declared.utf8.Formed.TheVariants.{Well, Ill}
-use Rattle.encoding.specs.Utf8.{Range, Row, in_range, table, all_in, is_row, is_sequence, WellFormed, none, more, FirstIll, len_by, char_len, at_lead, formed_from, formed}
+use Rattle.std.specs.Prelude.{Ok, Err}
+use Rattle.encoding.specs.Utf8.{Formed, Well, Ill, Range, Row, in_range, table, all_in, is_row, is_sequence, WellFormed, none, more, FirstIll, len_by, char_len, at_lead, formed_from, formed}
 use Rattle.white.proofs.Bools.{and_l, and_r, or_cases}
 use Rattle.encoding.proofs.RowLaws.{all_long, all_take, all_append, char_le}
 use Rattle.encoding.proofs.WalkLaws.{formed_skip}
@@ -158,7 +157,11 @@ record IllAt (q p : ℕ) (s : List ℕ) : Type 0 where
   ill : FirstIll s far
 
 lead_ill : (n p q : ℕ) (r : Formed) → at_lead n q r ≡ Ill p → ((n ≡ 0) × (q ≡ p)) ⊎ ((n ≡ suc (pred n)) × (r ≡ Ill p))
-lead_ill zero p q r e = inl (refl, cc)
+lead_ill zero p q r e = inl (refl, ap ill_place e)
+  where
+    ill_place : Formed → ℕ
+    ill_place (Err i) = i.at
+    ill_place (Ok u) = p
 lead_ill (suc n) p q r e = inr (refl, e)
 
 at_once : (q : ℕ) (b : ℕ) (bs : List ℕ) → char_len (b ∷ bs) ≡ 0 → IllAt q q (b ∷ bs)

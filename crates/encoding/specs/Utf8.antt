@@ -1,7 +1,6 @@
 -- UTF-8 by Unicode's table 3-7, well-formed byte sequences. Assumes nothing.
-use Rattle.std.specs.Prelude.{◌≡◌, ℕ, zero, suc, pred, ◌<◌, Bool, true, false, cond, ◌&&◌, ◌||◌, List, [], ◌∷◌, ◌++◌, length, take, drop, leb, ltb, eqb}
-use Rattle.encoding.specs.declared.utf8.Formed.{Formed}
-use Rattle.encoding.specs.declared.utf8.Formed.TheVariants.{Well, Ill}
+use Rattle.std.specs.Prelude.{◌≡◌, ℕ, zero, suc, pred, ◌<◌, Bool, true, false, cond, ◌&&◌, ◌||◌, List, [], ◌∷◌, ◌++◌, length, take, drop, leb, ltb, eqb, ⊤, Result, Ok, Err}
+use Rattle.encoding.specs.declared.utf8.IllFormed.{IllFormed}
 
 -- ---- the table
 
@@ -85,6 +84,16 @@ char_len (b ∷ bs) = len_by table b bs
 -- the second byte, by a first byte of E0 to F4: behind four of them not every byte may stand that goes on a sequence
 abbrev pub second : ℕ → Range
 second b = cond (eqb b 0xE0) 0xA0 (cond (eqb b 0xF0) 0x90 0x80) ⋯ cond (eqb b 0xED) 0x9F (cond (eqb b 0xF4) 0x8F 0xBF)
+
+-- the two answers: well-formed, or an ill-formed sequence at place p
+abbrev pub Formed : Type 0
+Formed = Result ⊤ IllFormed
+
+abbrev pub Well : Formed
+Well = Ok tt
+
+abbrev pub Ill : ℕ → Formed
+Ill p = Err (record { at = p })
 
 -- at place p begins a sequence of n bytes, or an ill-formed one where n is 0
 abbrev pub at_lead : ℕ → ℕ → Formed → Formed

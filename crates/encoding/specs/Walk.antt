@@ -1,8 +1,6 @@
 -- How far a walk over a text has come, for the loops that check it. Assumes nothing.
-use Rattle.std.specs.Prelude.{◌≡◌, ℕ, ◌≤◌, ◌<◌, List, length, drop, get_or}
-use Rattle.encoding.specs.declared.utf8.Formed.TheVariants.{Ill}
-use Rattle.encoding.specs.declared.utf8.Run.{Run}
-use Rattle.encoding.specs.declared.utf8.Run.TheVariants as run
+use Rattle.std.specs.Prelude.{◌≡◌, ℕ, ◌≤◌, ◌<◌, List, length, drop, get_or, Result, Ok, Err}
+use Rattle.encoding.specs.declared.utf8.IllFormed.{IllFormed}
 use Rattle.encoding.specs.Utf8.{formed_from}
 
 -- the byte at i is there, and lies from lo up to, not including, hi
@@ -23,6 +21,6 @@ pub record PlainTo (s : List ℕ) (i j : ℕ) : Type 0 where
   pub stops : j < length s → 0x80 ≤ get_or s j 0
 
 -- the same, and at least one sequence further where the first byte is over 7F; or an ill-formed sequence
-abbrev pub wide_to : List ℕ → ℕ → Run → Type 0
-wide_to s i (run.To j) = Past s i j × (i < length s → 0x80 ≤ get_or s i 0 → i < j)
-wide_to s i (run.Ill p) = formed_from 0 i (drop i s) ≡ Ill p
+abbrev pub wide_to : List ℕ → ℕ → Result ℕ IllFormed → Type 0
+wide_to s i (Ok j) = Past s i j × (i < length s → 0x80 ≤ get_or s i 0 → i < j)
+wide_to s i (Err e) = formed_from 0 i (drop i s) ≡ Err e

@@ -1,33 +1,19 @@
 // UTF-8: the check of a slice by Unicode's table 3-7 of well-formed byte sequences.
-ghost use Rattle.std.specs.Prelude.{◌≡◌, cond, ◌∷◌, [], ◌≤◌, ◌<◌, ◌+◌, length, drop};
+ghost use Rattle.std.specs.Prelude.{◌≡◌, ◌∷◌, [], ◌≤◌, ◌<◌, ◌+◌, length, drop};
 ghost use Rattle.encoding.specs.Utf8.{◌⋯◌, cont, second, all_in, char_len, formed, all_plain};
 ghost use Rattle.encoding.specs.Walk.{ByteIn, Past, PlainTo, wide_to};
 
-// Well-formed, or the first byte of the first ill-formed sequence.
-#[derive(Clone, Copy)]
-pub enum Formed {
-    Well,
-    Ill(usize),
-}
-
-// Where a run of characters ends: at a byte, or at an ill-formed sequence.
-#[derive(Clone, Copy)]
-enum Run {
-    To(usize),
-    Ill(usize),
+// A text that is not well-formed: the first byte of its first ill-formed sequence.
+#[derive(Clone, Copy, Debug, PartialEq, Eq)]
+pub struct IllFormed {
+    pub at: usize,
 }
 
 // The byte at i is there, and lies from lo to hi.
 fn in_range(s: &[u8], i: usize, lo: u8, hi: u8) -> bool
     ensures { result ≡ all_in (lo ⋯ hi ∷ []) (drop i s.now) }
 {
-    if i < s.len() {
-        let b = s[i];
-        if lo <= b {
-            return b <= hi;
-        }
-    }
-    false
+    i < s.len() && lo <= s[i] && s[i] <= hi
 }
 
 // The lowest byte that may stand behind b, a first byte of E0 to F4. One value for all of them keeps `char_len` short enough to stand in
@@ -35,54 +21,30 @@ fn in_range(s: &[u8], i: usize, lo: u8, hi: u8) -> bool
 fn lowest(b: u8) -> u8
     ensures { result ≡ (second b).lo }
 {
-    if b == 0xE0 {
-        return 0xA0;
+    match b {
+        0xE0 => 0xA0,
+        0xF0 => 0x90,
+        _ => 0x80,
     }
-    if b == 0xF0 {
-        return 0x90;
-    }
-    0x80
 }
 
 // The highest.
 fn highest(b: u8) -> u8
     ensures { result ≡ (second b).hi }
 {
-    if b == 0xED {
-        return 0x9F;
+    match b {
+        0xED => 0x9F,
+        0xF4 => 0x8F,
+        _ => 0xBF,
     }
-    if b == 0xF4 {
-        return 0x8F;
-    }
-    0xBF
 }
 
-// 3 where the byte behind i is one of lo to hi and the next one goes on, else 0.
-fn tail3(s: &[u8], i: usize, lo: u8, hi: u8) -> usize
+// The byte behind i is one of lo to hi, and the next one goes on.
+fn two_behind(s: &[u8], i: usize, lo: u8, hi: u8) -> bool
     requires { i < length s.now }
-    ensures { result ≡ cond (all_in (lo ⋯ hi ∷ cont ∷ []) (drop (i + 1) s.now)) 3 0 }
+    ensures { result ≡ all_in (lo ⋯ hi ∷ cont ∷ []) (drop (i + 1) s.now) }
 {
-    if in_range(s, i + 1, lo, hi) {
-        if in_range(s, i + 2, 0x80, 0xBF) {
-            return 3;
-        }
-    }
-    0
-}
-
-// 4 where the byte behind i is one of lo to hi and the next two go on, else 0.
-fn tail4(s: &[u8], i: usize, lo: u8, hi: u8) -> usize
-    requires { i < length s.now }
-    ensures { result ≡ cond (all_in (lo ⋯ hi ∷ cont ∷ cont ∷ []) (drop (i + 1) s.now)) 4 0 }
-{
-    if in_range(s, i + 1, lo, hi) {
-        if in_range(s, i + 2, 0x80, 0xBF) {
-            if in_range(s, i + 3, 0x80, 0xBF) {
-                return 4;
-            }
-        }
-    }
-    0
+    in_range(s, i + 1, lo, hi) && in_range(s, i + 2, 0x80, 0xBF)
 }
 
 // The sequence at i, whose first byte is one of 80 to DF.
@@ -90,10 +52,11 @@ fn two(s: &[u8], i: usize) -> usize
     requires { ByteIn s.now i 0x80 0xE0 }
     ensures { result ≡ char_len (drop i s.now) }
 {
-    if s[i] < 0xC2 {
-        return 0;
+    if 0xC2 <= s[i] && in_range(s, i + 1, 0x80, 0xBF) {
+        2
+    } else {
+        0
     }
-    if in_range(s, i + 1, 0x80, 0xBF) { 2 } else { 0 }
 }
 
 // The sequence at i, whose first byte is one of E0 to EF.
@@ -102,7 +65,11 @@ fn three(s: &[u8], i: usize) -> usize
     ensures { result ≡ char_len (drop i s.now) }
 {
     let b = s[i];
-    tail3(s, i, lowest(b), highest(b))
+    if two_behind(s, i, lowest(b), highest(b)) {
+        3
+    } else {
+        0
+    }
 }
 
 // The sequence at i, whose first byte is F0 or above.
@@ -111,30 +78,27 @@ fn four(s: &[u8], i: usize) -> usize
     ensures { result ≡ char_len (drop i s.now) }
 {
     let b = s[i];
-    if 0xF4 < b {
-        return 0;
+    if b <= 0xF4 && two_behind(s, i, lowest(b), highest(b)) && in_range(s, i + 3, 0x80, 0xBF) {
+        4
+    } else {
+        0
     }
-    tail4(s, i, lowest(b), highest(b))
 }
 
-// How long the well-formed sequence at i is: 0 where there is none.
+// How long the well-formed sequence at i is: 0 where there is none, and no Option, since the definition char_len, by which all count
+// characters, answers 0 there.
 pub fn char_len(s: &[u8], i: usize) -> usize
     ensures { result ≡ char_len (drop i s.now) }
 {
     if s.len() <= i {
         return 0;
     }
-    let b = s[i];
-    if b < 0x80 {
-        return 1;
+    match s[i] {
+        0x00..=0x7F => 1,
+        0x80..=0xDF => two(s, i),
+        0xE0..=0xEF => three(s, i),
+        0xF0..=0xFF => four(s, i),
     }
-    if b < 0xE0 {
-        return two(s, i);
-    }
-    if b < 0xF0 {
-        return three(s, i);
-    }
-    four(s, i)
 }
 
 // No byte is over 7F: one test at the end and no exit before it, so that it becomes vector code.
@@ -142,26 +106,20 @@ pub fn plain(s: &[u8]) -> bool
     ensures { result ≡ all_plain s.now }
 {
     let mut all: u8 = 0;
-    let mut k: usize = 0;
-    while k < s.len() {
-        all = all | s[k];
-        k += 1;
+    for b in s {
+        all |= *b;
     }
     all < 0x80
 }
 
-// Past the blocks of `size` bytes without a byte over 7F.
+// Past the blocks of `size` bytes without a byte over 7F. The loop counts by hand: a step is a block, and where the run ends is the answer.
 fn past_blocks(s: &[u8], from: usize, size: usize) -> usize
     requires { (from ≤ length s.now) × (0 < size) }
     ensures { Past s.now from result }
 {
     let mut i = from;
-    while size <= s.len() - i {
-        if plain(&s[i..i + size]) {
-            i += size;
-        } else {
-            return i;
-        }
+    while size <= s.len() - i && plain(&s[i..i + size]) {
+        i += size;
     }
     i
 }
@@ -172,51 +130,38 @@ fn past_plain(s: &[u8], from: usize) -> usize
     ensures { PlainTo s.now from result }
 {
     let long = past_blocks(s, from, 64);
-    let mut i = past_blocks(s, long, 8);
-    while i < s.len() {
+    let short = past_blocks(s, long, 8);
+    for i in short..s.len() {
         if 0x80 <= s[i] {
             return i;
         }
-        i += 1;
     }
-    i
+    s.len()
 }
 
-// Past the sequences of several bytes, or to an ill-formed one.
-fn past_wide(s: &[u8], from: usize) -> Run
+// Past the sequences of several bytes, or to an ill-formed one. The loop counts by hand: a step is as long as the sequence at it.
+fn past_wide(s: &[u8], from: usize) -> Result<usize, IllFormed>
     requires { from ≤ length s.now }
     ensures { wide_to s.now from result }
 {
     let mut i = from;
-    while i < s.len() {
-        if s[i] < 0x80 {
-            return Run::To(i);
-        }
+    while i < s.len() && 0x80 <= s[i] {
         let n = char_len(s, i);
         if n == 0 {
-            return Run::Ill(i);
+            return Err(IllFormed { at: i });
         }
         i += n;
     }
-    Run::To(i)
+    Ok(i)
 }
 
-// The check, over runs of plain bytes and of sequences of several bytes in turn.
-pub fn check(s: &[u8]) -> Formed
+// The check, over runs of plain bytes and of sequences of several bytes in turn: a step is two runs, so no `for` fits.
+pub fn check(s: &[u8]) -> Result<(), IllFormed>
     ensures { result ≡ formed s.now }
 {
     let mut i: usize = 0;
     while i < s.len() {
-        i = past_plain(s, i);
-        let w = past_wide(s, i);
-        match w {
-            Run::To(j) => {
-                i = j;
-            }
-            Run::Ill(at) => {
-                return Formed::Ill(at);
-            }
-        }
+        i = past_wide(s, past_plain(s, i))?;
     }
-    Formed::Well
+    Ok(())
 }

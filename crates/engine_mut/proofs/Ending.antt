@@ -1,7 +1,7 @@
 -- What the contract of a thin call says, of what its callee promised. Assumes nothing.
 use Rattle.text.proofs.Base.{ap, ℕ, List}
 use Rattle.meaning.specs.World.{Result}
-use Rattle.meaning.specs.declared.answer.Answer.{Answer}
+use Rattle.meaning.specs.Answer.{Answer}
 use Rattle.entry.specs.declared.state.Step.{Step}
 use Rattle.entry.specs.Served.{Served}
 use Rattle.engine_mut.specs.{declared.Engine.Engine, Stored.Stored, Stored.stored_in}

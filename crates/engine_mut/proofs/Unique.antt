@@ -1,7 +1,7 @@
 -- Any two outcomes that the promise of a thin call allows coincide: `call`, `record`, `run`, `layout` and `finish`. Assumes nothing.
 use Rattle.text.proofs.Base.{◌≡◌, sym, ◌∙◌, ℕ, List}
 use Rattle.tree.specs.declared.record.RecordNo.{RecordNo}
-use Rattle.meaning.specs.{declared.call.Call.Call, declared.answer.Answer.Answer, World.Result}
+use Rattle.meaning.specs.{declared.call.Call.Call, Answer.Answer, World.Result}
 use Rattle.meaning.specs.declared.call.Call.TheVariants.{Finish}
 use Rattle.entry.specs.Served.{call_left, record_left}
 use Rattle.format.specs.Laid.{laid_out}

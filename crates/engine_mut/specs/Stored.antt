@@ -3,7 +3,7 @@ use Rattle.std.specs.Prelude.{◌≡◌, ℕ, List}
 use Rattle.std.specs.Borrow.{MutBor}
 use denote.Triple.Both.{Both}
 use Rattle.tree.specs.declared.record.RecordNo.{RecordNo}
-use Rattle.meaning.specs.declared.answer.Answer.{Answer}
+use Rattle.meaning.specs.Answer.{Answer}
 use Rattle.meaning.specs.declared.call.Call.{Call}
 use Rattle.meaning.specs.World.{Result}
 use Rattle.lent.specs.Loans.{Loan, MutLoan}

@@ -63,17 +63,13 @@ long_as : (o : Option Body) (b c : ℕ) (bs : List ℕ) → (length (b ∷ c ∷
 long_as none b c bs h = refl
 long_as (some body) b c bs h = long_body body b c bs h
 
-pub long_none : (bs : List ℕ) → (length bs ≡ 0 → ⊥) → (length bs ≡ 1 → ⊥) → (length bs ≡ 2 → ⊥) → (length bs ≡ 5 → ⊥) → none ≡ decode bs
+-- no number of bytes that a kind has
+pub long_none : (bs : List ℕ) → (length bs ≡ 1 → ⊥) → (length bs ≡ 2 → ⊥) → (length bs ≡ 5 → ⊥) → none ≡ decode bs
 unfolding decode
-long_none [] h0 h1 h2 h5 = absurd (h0 refl)
-long_none (k ∷ []) h0 h1 h2 h5 = absurd (h1 refl)
-long_none (k ∷ b ∷ []) h0 h1 h2 h5 = absurd (h2 refl)
-long_none (k ∷ b ∷ c ∷ bs) h0 h1 h2 h5 = long_as (of_kind k) b c bs (λ e. h5 (omega arith))
-
-pub empty_none : (bs : List ℕ) → length bs ≡ 0 → none ≡ decode bs
-unfolding decode
-empty_none [] h = refl
-empty_none (b ∷ bs) h = absurd (omega arith)
+long_none [] h1 h2 h5 = refl
+long_none (k ∷ []) h1 h2 h5 = absurd (h1 refl)
+long_none (k ∷ b ∷ []) h1 h2 h5 = absurd (h2 refl)
+long_none (k ∷ b ∷ c ∷ bs) h1 h2 h5 = long_as (of_kind k) b c bs (λ e. h5 (omega arith))
 
 -- the bytes as the code reads them
 pub one_byte : (bs : List ℕ) → length bs ≡ 1 → bs ≡ get_or bs 0 0 ∷ []

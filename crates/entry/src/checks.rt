@@ -4,13 +4,11 @@ ghost use Rattle.opening.specs.Opening.{opened};
 ghost use Rattle.meaning.specs.Lent.{any_outside};
 ghost use Rattle.meaning.specs.Opening.{answer_to};
 ghost use Rattle.lent.specs.View.{queue_of};
-ghost use Rattle.lent.specs.Words.{run_of};
 ghost use Rattle.entry.specs.Served.{lent_run};
 
-use lent::formatter::{Formatter, count, head, indent, len, refused, stopped};
+use lent::formatter::Formatter;
 use lent::ring::{Queue, comment_at};
 use meaning::answer::{Answer, Refusal};
-use opening::open::Opening;
 use text::chars::in_source;
 use tree::record::RecordNo;
 
@@ -18,26 +16,16 @@ use tree::record::RecordNo;
 pub fn opening(source: &[u8], tree: &[u8]) -> Answer
     ensures { result ≡ answer_to (opened source.now tree.now) }
 {
-    let o = opening::open::open(source, tree);
-    match o {
-        Opening::Good(_) => Answer::Done,
-        Opening::SourceLong => Answer::Refused(Refusal::SourceLong),
-        Opening::SourceIll(p) => Answer::Refused(Refusal::SourceIll(p)),
-        Opening::TreeBad(i) => Answer::Refused(Refusal::TreeBad(i)),
-        Opening::TreeDeep(i) => Answer::Refused(Refusal::TreeDeep(i)),
-    }
+    opening::open::open(source, tree)?;
+    Ok(())
 }
 
 // Does a waiting span lie outside the source, or across a character?
 fn any_outside(src: &[u8], queue: &Queue, head: u32, count: u32) -> bool
     ensures { result ≡ any_outside src.now (queue_of queue.now head count) }
 {
-    let mut i: u32 = 0;
-    while i < count {
-        let c = comment_at(queue, head, i);
-        if in_source(src, c.span) {
-            i += 1;
-        } else {
+    for i in 0..count {
+        if !in_source(src, comment_at(queue, head, i).span) {
             return true;
         }
     }
@@ -46,24 +34,24 @@ fn any_outside(src: &[u8], queue: &Queue, head: u32, count: u32) -> bool
 
 // 4, 5, 6, where the buffer has `cap` bytes.
 pub fn lent(src: &[u8], fmt: &mut Formatter, queue: &Queue, cap: usize)
-    ensures { run_of fmt.new ≡ lent_run src.now queue.now cap (run_of fmt.old) }
+    ensures { fmt.new ≡ lent_run src.now queue.now cap fmt.old }
 {
-    if stopped(fmt) {
+    if fmt.stopped() {
         return;
     }
-    if cap < len(fmt) {
-        refused(fmt, Refusal::NoRoom(len(fmt)));
+    if cap < fmt.len {
+        fmt.refused(Refusal::NoRoom(fmt.len));
         return;
     }
-    if 256 < count(fmt) {
-        refused(fmt, Refusal::QueueFull(RecordNo(8192)));
+    if 256 < fmt.count {
+        fmt.refused(Refusal::QueueFull(RecordNo(8192)));
         return;
     }
-    if any_outside(src, queue, head(fmt), count(fmt)) {
-        refused(fmt, Refusal::QueueFull(RecordNo(8192)));
+    if any_outside(src, queue, fmt.head, fmt.count) {
+        fmt.refused(Refusal::QueueFull(RecordNo(8192)));
         return;
     }
-    if 64 < indent(fmt) {
-        refused(fmt, Refusal::IndentOut(indent(fmt) as u32));
+    if 64 < fmt.indent {
+        fmt.refused(Refusal::IndentOut(fmt.indent as u32));
     }
 }

@@ -7,131 +7,82 @@ ghost use Rattle.entry.specs.Served.{as_call, numbered};
 use meaning::call::{Call, Hint, Literal};
 use tree::record::RecordNo;
 
-#[derive(Clone, Copy)]
-pub enum Decoded {
-    Made(Call),
-    // Unknown, cut, with bytes behind it, or with a body value that is not listed.
-    Unknown,
-}
-
-fn wide(x: u8) -> u32
-    ensures { (result ≡ x) × (result < 256) }
-{
-    x as u32
-}
-
 // Kinds without a body.
-fn bare(kind: u8) -> Decoded
+fn bare(kind: u8) -> Option<Call>
     ensures { as_call result ≡ decode (kind ∷ []) }
 {
-    if kind == 0x08 {
-        return Decoded::Made(Call::Ws);
+    match kind {
+        0x08 => Some(Call::Ws),
+        0x0A => Some(Call::FlushPrefixComments),
+        0x0B => Some(Call::Finish),
+        _ => None,
     }
-    if kind == 0x0A {
-        return Decoded::Made(Call::FlushPrefixComments);
-    }
-    if kind == 0x0B {
-        return Decoded::Made(Call::Finish);
-    }
-    Decoded::Unknown
 }
 
-fn literal(b: u8) -> Decoded
+// By hand and no `TryFrom<u8> for Literal`: the clause is over the call, and over the list that the format of call records has.
+fn literal(b: u8) -> Option<Call>
     ensures { as_call result ≡ at (map Call.Lit literals) b }
 {
-    if b < 1 {
-        return Decoded::Made(Call::Lit(Literal::Braces));
+    match b {
+        0 => Some(Call::Lit(Literal::Braces)),
+        1 => Some(Call::Lit(Literal::Bars)),
+        2 => Some(Call::Lit(Literal::Parens)),
+        3 => Some(Call::Lit(Literal::OpenBrace)),
+        4 => Some(Call::Lit(Literal::CloseBrace)),
+        5 => Some(Call::Lit(Literal::Comma)),
+        6 => Some(Call::Lit(Literal::Semicolon)),
+        7 => Some(Call::Lit(Literal::Colon)),
+        _ => None,
     }
-    if b < 2 {
-        return Decoded::Made(Call::Lit(Literal::Bars));
-    }
-    if b < 3 {
-        return Decoded::Made(Call::Lit(Literal::Parens));
-    }
-    if b < 4 {
-        return Decoded::Made(Call::Lit(Literal::OpenBrace));
-    }
-    if b < 5 {
-        return Decoded::Made(Call::Lit(Literal::CloseBrace));
-    }
-    if b < 6 {
-        return Decoded::Made(Call::Lit(Literal::Comma));
-    }
-    if b < 7 {
-        return Decoded::Made(Call::Lit(Literal::Semicolon));
-    }
-    if b < 8 {
-        return Decoded::Made(Call::Lit(Literal::Colon));
-    }
-    Decoded::Unknown
 }
 
-fn hint(b: u8) -> Decoded
+// By hand and no `TryFrom<u8> for Hint`, as `literal`.
+fn hint(b: u8) -> Option<Call>
     ensures { as_call result ≡ at (map Call.Comments hints) b }
 {
-    if b < 1 {
-        return Decoded::Made(Call::Comments(Hint::Line));
+    match b {
+        0 => Some(Call::Comments(Hint::Line)),
+        1 => Some(Call::Comments(Hint::Prefix)),
+        2 => Some(Call::Comments(Hint::Suffix)),
+        3 => Some(Call::Comments(Hint::Infix)),
+        _ => None,
     }
-    if b < 2 {
-        return Decoded::Made(Call::Comments(Hint::Prefix));
-    }
-    if b < 3 {
-        return Decoded::Made(Call::Comments(Hint::Suffix));
-    }
-    if b < 4 {
-        return Decoded::Made(Call::Comments(Hint::Infix));
-    }
-    Decoded::Unknown
 }
 
-fn flush(b: u8) -> Decoded
+fn flush(b: u8) -> Option<Call>
     ensures { as_call result ≡ decode (0x09 ∷ b ∷ []) }
 {
-    if b == 0 {
-        return Decoded::Made(Call::FlushWhitespace(false));
+    match b {
+        0 => Some(Call::FlushWhitespace(false)),
+        1 => Some(Call::FlushWhitespace(true)),
+        _ => None,
     }
-    if b == 1 {
-        return Decoded::Made(Call::FlushWhitespace(true));
-    }
-    Decoded::Unknown
 }
 
 // Kinds with a body of one byte.
-fn short(kind: u8, b: u8) -> Decoded
+fn short(kind: u8, b: u8) -> Option<Call>
     ensures { as_call result ≡ decode (kind ∷ b ∷ []) }
 {
-    if kind == 0x04 {
-        return literal(b);
+    match kind {
+        0x04 => literal(b),
+        0x05 => hint(b),
+        0x06 => Some(Call::Indent(b)),
+        0x07 => Some(Call::Nl(b)),
+        0x09 => flush(b),
+        _ => None,
     }
-    if kind == 0x05 {
-        return hint(b);
-    }
-    if kind == 0x06 {
-        return Decoded::Made(Call::Indent(b));
-    }
-    if kind == 0x07 {
-        return Decoded::Made(Call::Nl(b));
-    }
-    if kind == 0x09 {
-        return flush(b);
-    }
-    Decoded::Unknown
 }
 
 // Kinds with a node number.
-fn numbered(kind: u8, k: RecordNo) -> Decoded
+fn numbered(kind: u8, k: RecordNo) -> Option<Call>
     ensures { as_call result ≡ numbered kind k }
 {
-    if kind == 0x01 {
-        return Decoded::Made(Call::WriteOwned(k));
+    match kind {
+        0x01 => Some(Call::WriteOwned(k)),
+        0x02 => Some(Call::WriteRaw(k)),
+        0x03 => Some(Call::Ignore(k)),
+        _ => None,
     }
-    if kind == 0x02 {
-        return Decoded::Made(Call::WriteRaw(k));
-    }
-    if kind == 0x03 {
-        return Decoded::Made(Call::Ignore(k));
-    }
-    Decoded::Unknown
 }
 
 // The node number behind the kind, low byte first.
@@ -139,28 +90,17 @@ fn number(bytes: &[u8]) -> RecordNo
     requires { 4 < length bytes.now }
     ensures { result.0 ≡ four (drop 1 bytes.now) }
 {
-    let a = wide(bytes[1]);
-    let b = wide(bytes[2]);
-    let c = wide(bytes[3]);
-    let d = wide(bytes[4]);
-    RecordNo(a + b * 0x100 + c * 0x10000 + d * 0x1000000)
+    RecordNo(u32::from_le_bytes([bytes[1], bytes[2], bytes[3], bytes[4]]))
 }
 
-pub fn decode(bytes: &[u8]) -> Decoded
+// None: unknown, cut, with bytes behind it, or with a body value that is not listed.
+pub fn decode(bytes: &[u8]) -> Option<Call>
     ensures { as_call result ≡ decode bytes.now }
 {
-    if bytes.len() == 0 {
-        return Decoded::Unknown;
+    match bytes.len() {
+        1 => bare(bytes[0]),
+        2 => short(bytes[0], bytes[1]),
+        5 => numbered(bytes[0], number(bytes)),
+        _ => None,
     }
-    let kind = bytes[0];
-    if bytes.len() == 1 {
-        return bare(kind);
-    }
-    if bytes.len() == 2 {
-        return short(kind, bytes[1]);
-    }
-    if bytes.len() == 5 {
-        return numbered(kind, number(bytes));
-    }
-    Decoded::Unknown
 }

@@ -1,15 +1,11 @@
 // The engine's state as a caller holds it, and what a public function hands back.
 ghost use Rattle.std.specs.Prelude.{◌≡◌};
 ghost use Rattle.meaning.specs.State.{fresh};
-ghost use Rattle.lent.specs.View.{flag_of};
-ghost use Rattle.lent.specs.Words.{run_of};
 ghost use Rattle.entry.specs.Served.{encoded, started_run, now_of, Left};
 
-use lent::formatter::{
-    Formatter, answer, count, finished, head, indent, len, lines, spaced, stopped, use_lines,
-};
+use lent::formatter::Formatter;
 use lent::ring::{Queue, tidy};
-use meaning::answer::{Answer, number, place};
+use meaning::answer::Answer;
 
 // The scalars; the queue has `count` comments.
 #[derive(Clone, Copy)]
@@ -53,61 +49,48 @@ pub fn fresh() -> State
     }
 }
 
-fn flag(yes: bool) -> usize
-    ensures { result ≡ flag_of yes }
-{
-    if yes { 1 } else { 0 }
-}
-
-// The engine's words that a call or a run starts with, and what opening answers.
+// The formatter that a call or a run starts with, and what opening answers. No `From<Small>`: the answer comes from outside.
 pub fn started(now: Small, answer: Answer) -> Formatter
-    ensures { run_of result ≡ started_run now answer }
+    ensures { result ≡ started_run now answer }
 {
-    [
-        now.len,
-        now.lines as usize,
-        flag(now.use_lines),
-        flag(now.ws),
-        now.indent as usize,
-        flag(now.finished),
-        now.count as usize,
-        0,
-        number(answer) as usize,
-        place(answer),
-        0,
-        0,
-        0,
-        0,
-        0,
-        0,
-    ]
-}
-
-// The scalars that the words have.
-pub fn now_of(fmt: &Formatter) -> Small
-    ensures { result ≡ now_of (run_of fmt.now) }
-{
-    Small {
-        len: len(fmt),
-        count: count(fmt),
-        lines: lines(fmt),
-        use_lines: use_lines(fmt),
-        ws: spaced(fmt),
-        indent: indent(fmt),
-        finished: finished(fmt),
+    Formatter {
+        answer,
+        len: now.len,
+        head: 0,
+        count: now.count,
+        lines: now.lines,
+        use_lines: now.use_lines,
+        ws: now.ws,
+        indent: now.indent,
+        finished: now.finished,
     }
 }
 
-// What is handed back: after a refusal the state that was lent, else the one that the words and the ring have.
-pub fn left(s: State, fmt: &Formatter, queue: &Queue) -> Step
-    ensures { Left s (run_of fmt.now) queue.now result }
+// The scalars, as a caller holds them. No `From<&Formatter>`: the answer and the place of the ring's head are left behind.
+pub fn now_of(fmt: &Formatter) -> Small
+    ensures { result ≡ now_of fmt.now }
 {
-    let answer = answer(fmt);
-    if stopped(fmt) {
+    Small {
+        len: fmt.len,
+        count: fmt.count,
+        lines: fmt.lines,
+        use_lines: fmt.use_lines,
+        ws: fmt.ws,
+        indent: fmt.indent,
+        finished: fmt.finished,
+    }
+}
+
+// What is handed back: after a refusal the state that was lent, else the one that the formatter and the ring have.
+pub fn left(s: State, fmt: &Formatter, queue: &Queue) -> Step
+    ensures { Left s fmt.now queue.now result }
+{
+    let answer = fmt.answer;
+    if fmt.stopped() {
         return Step { answer, state: s };
     }
     let now = now_of(fmt);
-    let queue = tidy(queue, head(fmt), count(fmt));
+    let queue = tidy(queue, fmt.head, fmt.count);
     let state = State { now, queue };
     Step { answer, state }
 }

@@ -55,10 +55,7 @@ fn replay(file: &[u8], counts: &mut Counts) {
 fn read(file: &File, to: &mut [u8]) -> usize
     ensures { result ≤ length to.new }
 {
-    match file.read_at(to, 0) {
-        Ok(n) => n,
-        Err(_) => 0,
-    }
+    file.read_at(to, 0).unwrap_or(0)
 }
 
 // Whether there is such a file; of one that cannot be opened standard error tells.

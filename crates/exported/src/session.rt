@@ -1,8 +1,6 @@
 // One step: something is lent anew, or a function is called.
-ghost use Rattle.std.specs.Prelude.{◌≤◌};
-
 use crate::tally;
-use crate::tally::{Counts, add, add_if};
+use crate::tally::{Count, Counts, add, add_if};
 use savetnuok::{savetnuok_call, savetnuok_open, savetnuok_run, savetnuok_why};
 
 // Where the file goes on, and how many bytes of each are lent.
@@ -26,28 +24,53 @@ pub fn nothing() -> Lent {
     }
 }
 
-fn least(a: usize, b: usize) -> usize
-    ensures { result ≤ b }
-{
-    if a <= b { a } else { b }
+// What a step lends anew.
+#[derive(Clone, Copy)]
+enum Loan {
+    Source,
+    Tree,
+    State,
+    Out,
 }
 
-fn same(have: &[u8], want: &[u8]) -> bool {
-    for i in 0..have.len() {
-        if have[i] != packed::byte(want, i) {
-            return false;
+// Which function a step calls.
+#[derive(Clone, Copy)]
+enum Function {
+    Open,
+    Call,
+    Run,
+    Why,
+}
+
+#[derive(Clone, Copy)]
+enum Kind {
+    Lend(Loan),
+    Ask(Function),
+}
+
+// The file's kinds of step: 0 to 3 lend a source, a tree, a state, a buffer; 4 to 6 open, call, run; 8 asks why.
+impl From<usize> for Kind {
+    fn from(kind: usize) -> Kind {
+        match kind {
+            0 => Kind::Lend(Loan::Source),
+            1 => Kind::Lend(Loan::Tree),
+            2 => Kind::Lend(Loan::State),
+            3 => Kind::Lend(Loan::Out),
+            4 => Kind::Ask(Function::Open),
+            5 => Kind::Ask(Function::Call),
+            6 => Kind::Ask(Function::Run),
+            _ => Kind::Ask(Function::Why),
         }
     }
-    true
 }
 
 // ---- what is lent
 
-// The kinds of step: 0 to 3 lend a source, a tree, a state, a buffer; 4 to 6 open, call, run; 8 asks why.
+// One struct of the six buffers would be lent whole with each: the borrow check of a call that takes several has no proof then.
 fn lend(
     file: &[u8],
     l: Lent,
-    kind: usize,
+    loan: Loan,
     source: &mut [u8],
     tree: &mut [u8],
     state: &mut [u8],
@@ -55,26 +78,26 @@ fn lend(
     want_state: &mut [u8],
     want_out: &mut [u8],
 ) -> Lent {
-    let from = packed::plus(l.at, 4);
+    let from = l.at.saturating_add(4);
     let mut next = l;
-    match kind {
-        0 => {
+    match loan {
+        Loan::Source => {
             let u = packed::unpack(file, from, source);
             next.source = u.len;
             next.at = u.at;
         }
-        1 => {
+        Loan::Tree => {
             let u = packed::unpack(file, from, tree);
             next.tree = u.len;
             next.at = u.at;
         }
-        2 => {
+        Loan::State => {
             let u = packed::unpack(file, from, state);
             packed::unpack(file, from, want_state);
             next.state = u.len;
             next.at = u.at;
         }
-        _ => {
+        Loan::Out => {
             let u = packed::unpack(file, from, out);
             packed::unpack(file, from, want_out);
             next.out = u.len;
@@ -91,29 +114,29 @@ fn node_in(bytes: &[u8]) -> u32 {
 }
 
 fn answered(
-    kind: usize,
+    f: Function,
     source: &[u8],
     tree: &[u8],
     state: &mut [u8],
     out: &mut [u8],
     bytes: &[u8],
 ) -> u64 {
-    match kind {
-        4 => savetnuok_open(source, tree, state),
-        5 => savetnuok_call(source, tree, state, out, bytes),
-        6 => savetnuok_run(source, tree, state, out, node_in(bytes)),
-        _ => savetnuok_why(source, tree, node_in(bytes)),
+    match f {
+        Function::Open => savetnuok_open(source, tree, state),
+        Function::Call => savetnuok_call(source, tree, state, out, bytes),
+        Function::Run => savetnuok_run(source, tree, state, out, node_in(bytes)),
+        Function::Why => savetnuok_why(source, tree, node_in(bytes)),
     }
 }
 
 // What is wanted: 0 where it is as it was, else 1, a place, and the bytes from there on.
 fn wanted(file: &[u8], at: usize, want: &mut [u8]) -> usize {
-    let from = packed::plus(at, 4);
+    let from = at.saturating_add(4);
     if packed::word(file, at) == 0 {
         return from;
     }
-    let place = least(packed::word(file, from), want.len());
-    let u = packed::unpack(file, packed::plus(from, 4), &mut want[place..]);
+    let place = packed::word(file, from).min(want.len());
+    let u = packed::unpack(file, from.saturating_add(4), &mut want[place..]);
     u.at
 }
 
@@ -126,21 +149,29 @@ fn held(
     want_out: &[u8],
     counts: &mut Counts,
 ) {
-    add(counts, tally::slot(recorded / 0x1_0000_0000), 1);
-    add(counts, tally::STATE_BYTES, state.len());
-    add(counts, tally::OUT_BYTES, out.len());
-    add_if(counts, tally::ANSWERS_DIFFER, answer != recorded);
-    add_if(counts, tally::STATES_DIFFER, !same(state, want_state));
-    add_if(counts, tally::BUFFERS_DIFFER, !same(out, want_out));
+    tally::add_answer(counts, recorded / 0x1_0000_0000);
+    add(counts, Count::StateBytes, state.len());
+    add(counts, Count::OutBytes, out.len());
+    add_if(counts, Count::AnswersDiffer, answer != recorded);
+    add_if(
+        counts,
+        Count::StatesDiffer,
+        state != packed::front(want_state, state.len()),
+    );
+    add_if(
+        counts,
+        Count::BuffersDiffer,
+        out != packed::front(want_out, out.len()),
+    );
 }
 
 // Where a function is counted.
-fn counted(kind: usize) -> usize {
-    match kind {
-        4 => tally::OPENED,
-        5 => tally::CALLED,
-        6 => tally::RAN,
-        _ => tally::ASKED,
+fn counted(f: Function) -> Count {
+    match f {
+        Function::Open => Count::Opened,
+        Function::Call => Count::Called,
+        Function::Run => Count::Ran,
+        Function::Why => Count::Asked,
     }
 }
 
@@ -148,7 +179,7 @@ fn counted(kind: usize) -> usize {
 fn made(
     file: &[u8],
     l: Lent,
-    kind: usize,
+    f: Function,
     source: &[u8],
     tree: &[u8],
     state: &mut [u8],
@@ -157,18 +188,11 @@ fn made(
     want_out: &mut [u8],
     counts: &mut Counts,
 ) -> usize {
-    let len = packed::word(file, packed::plus(l.at, 4));
-    let from = packed::plus(l.at, 8);
-    let at = packed::plus(from, len);
-    let answer = answered(
-        kind,
-        source,
-        tree,
-        state,
-        out,
-        packed::slice(file, from, len),
-    );
-    let behind_state = wanted(file, packed::plus(at, 8), want_state);
+    let len = packed::word(file, l.at.saturating_add(4));
+    let from = l.at.saturating_add(8);
+    let at = from.saturating_add(len);
+    let answer = answered(f, source, tree, state, out, packed::slice(file, from, len));
+    let behind_state = wanted(file, at.saturating_add(8), want_state);
     let end = wanted(file, behind_state, want_out);
     held(
         answer,
@@ -179,7 +203,7 @@ fn made(
         want_out,
         counts,
     );
-    add(counts, counted(kind), 1);
+    add(counts, counted(f), 1);
     end
 }
 
@@ -194,26 +218,27 @@ pub fn step(
     want_out: &mut [u8],
     counts: &mut Counts,
 ) -> Lent {
-    let kind = packed::word(file, l.at);
-    if kind < 4 {
-        return lend(
-            file, l, kind, source, tree, state, out, want_state, want_out,
-        );
+    match Kind::from(packed::word(file, l.at)) {
+        Kind::Lend(loan) => lend(
+            file, l, loan, source, tree, state, out, want_state, want_out,
+        ),
+        Kind::Ask(f) => {
+            let state_len = l.state.min(state.len());
+            let out_len = l.out.min(out.len());
+            let mut next = l;
+            next.at = made(
+                file,
+                l,
+                f,
+                packed::front(source, l.source),
+                packed::front(tree, l.tree),
+                &mut state[0..state_len],
+                &mut out[0..out_len],
+                want_state,
+                want_out,
+                counts,
+            );
+            next
+        }
     }
-    let state_len = least(l.state, state.len());
-    let out_len = least(l.out, out.len());
-    let mut next = l;
-    next.at = made(
-        file,
-        l,
-        kind,
-        packed::front(source, l.source),
-        packed::front(tree, l.tree),
-        &mut state[0..state_len],
-        &mut out[0..out_len],
-        want_state,
-        want_out,
-        counts,
-    );
-    next
 }

@@ -1,4 +1,5 @@
 -- Laws of arms: the comma behind one, and that a turn takes a record. Assumes nothing.
+use Rattle.lent.specs.declared.formatter.Formatter.{Formatter}
 use Rattle.steps.proofs.Rules.{◌≡◌, refl, sym, ◌∙◌, Bool, true, false, List, ℕ, RecordNo, Kind, Line, Comments, Nl, Script, Plan, make, ◌then◌, Engine, Makes, Stream, next_is, take_any}
 use Rattle.steps.proofs.Rules.{◌▸◌, pump, is, Goes, Falls, Takes, Each, pump_takes, taking_falls, ◌takes_then◌}
 use Rattle.walk.specs.Stream.{no, next_in}
@@ -11,7 +12,7 @@ use Rattle.exprs.specs.Arms.{with_comma, select_arm, match_arm}
 use Rattle.exprs.proofs.TakenLaws.{taken_is}
 
 -- whether the arm that was taken has a block for its body
-pub comma_of : {x : Script} (lay : Below) (rule : RecordNo → Plan) (want : ℕ → Bool) {s s₁ s' : Stream} {w w' : List ℕ} {k : RecordNo} {t u : Bool} {e e' : Engine}
+pub comma_of : {x : Script} (lay : Below) (rule : RecordNo → Plan) (want : ℕ → Bool) {s s₁ s' : Stream} {w w' : Formatter} {k : RecordNo} {t u : Bool} {e e' : Engine}
     → t ≡ next_is want s → t ≡ true → Got (take_any s) s w w' k s₁ → u ≡ is_block_arm x.tree k → Goes x (pump rule ▸ arm_comma x.tree u) s e e' s' → Goes x (with_comma x lay rule) s e e' s'
 unfolding with_comma
 comma_of {x} lay rule want {s} {u = u} q h g b y =

@@ -1,4 +1,5 @@
 -- Laws of the depth that is left, and of rules that ask their node's kind. Assumes nothing.
+use Rattle.lent.specs.declared.formatter.Formatter.{Formatter}
 use Rattle.steps.proofs.Rules.{◌≡◌, refl, sym, ap, ◌∙◌, List, ℕ, zero, suc, ◌-◌, arith, Record, RecordNo, TreeDeep, node_of, Script, refuse, Engine, engine}
 use Rattle.steps.proofs.Rules.{Bool, true, false, Kind, byte_of, Plan, Makes, Refuses, Stream, records_of, ◌▸◌, plain, pump, expect, is, parse, Goes, Falls, pump_leaves, kind_is}
 use Rattle.steps.proofs.Rules.{taking_falls, ◌takes_then◌, ne_eqb}
@@ -18,7 +19,7 @@ use Rattle.exprs.specs.Lay.{inner, below, lay}
 -- ---- the depth
 
 module _ (x : Script) (rule : Rule) (k : RecordNo) where
-  pub too_deep : {d : ℕ} {w w' q b : List ℕ} → d ≡ 0 → Refuses (refuse (TreeDeep k)) w w' → Makes x (lay x d rule k) (engine w q b) (engine w' q b)
+  pub too_deep : {d : ℕ} {w w' : Formatter} {q b : List ℕ} → d ≡ 0 → Refuses (refuse (TreeDeep k)) w w' → Makes x (lay x d rule k) (engine w q b) (engine w' q b)
   unfolding lay
   too_deep e h = rw e (h.ran x _ _)
 

@@ -1,12 +1,10 @@
 -- Laws of lists and objects: what decides, and that a turn takes a record. Assumes nothing.
-use Rattle.steps.proofs.Rules.{◌≡◌, sym, ap, ◌∙◌, inl, inr, Bool, true, false, cond, List, [], ◌∷◌, ℕ, ◌≤◌, length, arith, Record, RecordNo, Kind, Line, Comments, Ws, Script, Makes, ◌▹◌}
+use Rattle.std.specs.Prelude.{Option, unwrap_or}
+use Rattle.steps.proofs.Rules.{◌≡◌, refl, sym, ap, ◌∙◌, Bool, true, false, cond, List, [], ◌∷◌, ℕ, ◌≤◌, length, arith, Record, RecordNo, Kind, Line, Comments, Ws, Script, Makes, ◌▹◌}
 use Rattle.steps.proofs.Rules.{nothing, make, Engine, Stream, records_of, ◌▸◌, write, pump, expect_byte, expect, is, Goes, Remaining, Place, turn}
 use Rattle.steps.proofs.Rules.{Falls, Leaves, pump_takes, pump_leaves, plain_leaves, next_leaves, taking_falls, ◌takes_then◌, ◌leaves_then◌, turn_falls}
-use Rattle.tree.specs.{declared.cursor.Cursor.Cursor, Cursor.found_of, Cursor.head_of, Cursor.behind, Cursor.children_of}
-use Rattle.tree.proofs.Laws.{found_is}
-use Rattle.white.proofs.Bools.{le_or_lt}
-use Rattle.walk.specs.Stream.{Peeked}
-use Rattle.walk.proofs.StreamLaws.{found_same}
+use Rattle.tree.specs.{declared.cursor.Cursor.Cursor, Cursor.head_of, Cursor.behind, Cursor.children_of}
+use Rattle.walk.specs.Stream.{no, Peeked}
 use Rattle.patterns.specs.Pattern.{object_name, silent}
 use Rattle.loose.specs.Reason.{reason, is_loose}
 use Rattle.lent.proofs.MadeLaws as made
@@ -57,15 +55,12 @@ unfolding behind
 behind_past rs k h = omega arith
 
 -- where there is no name, nothing stands behind it
-pub behind_name_lem : (x : Script) {s : Stream} {k : RecordNo} {n : ℕ} → length x.tree ≤ 8192 → Peeked s k → n ≡ behind x.tree k.0 → n ≡ behind_name x.tree s.left
-behind_name_lem x {s} {k} few p e = e ∙ go s.left p.found
+pub behind_name_lem : (x : Script) {s : Stream} {o : Option RecordNo} {k : RecordNo} {n : ℕ} → length x.tree ≤ 8192 → Peeked s o → k ≡ unwrap_or o (no 8192) → n ≡ behind x.tree k.0 → n ≡ behind_name x.tree s.left
+behind_name_lem x {s} {o} {k} few p q e = e ∙ ap (λ (k : RecordNo). behind x.tree k.0) (q ∙ ap (λ (o : Option RecordNo). unwrap_or o (no 8192)) p.found) ∙ go s.left
   where
-    past : 8192 ≤ k.0 → behind x.tree k.0 ≡ length x.tree
-    past l = omega (arith, behind_past x.tree k.0 (omega arith))
-
-    go : (l : List ℕ) → found_of k ≡ head_of l → behind x.tree k.0 ≡ behind_name x.tree l
-    go [] f = elim (le_or_lt 8192 k.0) [ inl l ↦ past l | inr l ↦ let z : ◌≡◌ {A = ℕ} 0 1 = cc (found_is {k = k} l) in absurd (omega arith) ]
-    go (j ∷ js) f = ap (λ (k : RecordNo). behind x.tree k.0) (found_same f)
+    go : (l : List ℕ) → behind x.tree (unwrap_or (head_of l) (no 8192)).0 ≡ behind_name x.tree l
+    go [] = behind_past x.tree 8192 few
+    go (j ∷ js) = refl
 
 -- ---- entries
 

@@ -1,4 +1,5 @@
 -- Laws of statements one by one, and of the body around them. Assumes nothing.
+use Rattle.lent.specs.declared.formatter.Formatter.{Formatter}
 use Rattle.steps.proofs.Rules.{◌≡◌, refl, sym, ap, ◌∙◌, Bool, true, false, List, ℕ, ◌<◌, length, RecordNo, node_of, Line, Comments, Script, make, ◌then◌, Engine, Makes}
 use Rattle.steps.proofs.Rules.{nothing_made, Stream, next_is, take_any, ◌▸◌, plain, pump, Goes, ◌▹◌, Falls, Going, starts, goes_on, done, falls, pump_takes, ◌takes_then◌}
 use Rattle.lent.proofs.MadeLaws as made
@@ -24,7 +25,7 @@ module _ (x : Script) (lay : Below) where
   unfolding another
   stmts_fall = record { less = λ s h. (pump_takes (λ (k : ℕ). true) (statement x lay s.last) takes_then semi_leaves x.tree (kind_in x lay s.rest.left)).less s.rest h }
 
-  module _ {s s₁ s' : Stream} {w w' : List ℕ} {k : RecordNo} (last : ℕ) {kind : ℕ} {t : Bool} {e e' : Engine} (q : t ≡ next_is (λ (k : ℕ). true) s) (h : t ≡ true) (g : Got (take_any s) s w w' k s₁) (r : kind ≡ (node_of x.tree k.0).kind) (y : Goes x (pump (statement x lay last) ▸ semicolon x.tree kind) s e e' s') where
+  module _ {s s₁ s' : Stream} {w w' : Formatter} {k : RecordNo} (last : ℕ) {kind : ℕ} {t : Bool} {e e' : Engine} (q : t ≡ next_is (λ (k : ℕ). true) s) (h : t ≡ true) (g : Got (take_any s) s w w' k s₁) (r : kind ≡ (node_of x.tree k.0).kind) (y : Goes x (pump (statement x lay last) ▸ semicolon x.tree kind) s e e' s') where
     one_more : Goes x (another x lay) (said s last) e e' (said s' kind)
     unfolding another
     one_more =

@@ -9,8 +9,8 @@ use Rattle.meaning.specs.declared.call.Call.TheVariants.{Comments}
 use Rattle.meaning.specs.declared.answer.Refusal.TheVariants.{TreeDeep}
 use Rattle.meaning.specs.Plan.{Plan, refuse}
 use Rattle.meaning.specs.State.{Script}
-use Rattle.lent.specs.Loans.{Loan, MutLoan, script, Made}
-use Rattle.walk.specs.Stream.{Stream, tree}
+use Rattle.lent.specs.Loans.{Loan, MutLoan, FormatterLoan, script, Made}
+use Rattle.walk.specs.Stream.{Stream, tree, StreamMutLoan}
 use Rattle.walk.specs.Flow.{Flow, ◌▸◌, call, pump, is, parse, Walked}
 use Rattle.parts.specs.Labels.{before_expr}
 use Rattle.parts.specs.Lone.{lone}
@@ -75,13 +75,13 @@ lay x (suc d) rule k = below x (lay x d) rule k
 -- ---- the forms of contract
 
 -- what a rule asks for is laid out, with so many levels left
-abbrev pub Lays : Loan → Loan → MutLoan → MutLoan → MutLoan → ℕ → Rule → RecordNo → Type 0
+abbrev pub Lays : Loan → Loan → FormatterLoan → MutLoan → MutLoan → ℕ → Rule → RecordNo → Type 0
 Lays src table fmt queue out depth rule k = Made src table fmt queue out (lay (script src table) depth rule k)
 
 -- a node's rule is followed, with so many levels left below the node
-abbrev pub Parses : Loan → Loan → MutLoan → MutLoan → MutLoan → ℕ → (Script → Below → Stream → Flow Stream) → RecordNo → Type 0
+abbrev pub Parses : Loan → Loan → FormatterLoan → MutLoan → MutLoan → ℕ → (Script → Below → Stream → Flow Stream) → RecordNo → Type 0
 Parses src table fmt queue out depth rule k = Made src table fmt queue out (parse (tree table) (rule (script src table) (lay (script src table) depth)) k)
 
 -- a part of a rule is, over the stream p
-abbrev pub Steps : Loan → Loan → MutLoan → MutLoan → MutLoan → MutLoan → ℕ → (Script → Below → Stream → Flow Stream) → Type 0
+abbrev pub Steps : Loan → Loan → FormatterLoan → MutLoan → MutLoan → StreamMutLoan → ℕ → (Script → Below → Stream → Flow Stream) → Type 0
 Steps src table fmt queue out p depth rule = Walked src table fmt queue out p (rule (script src table) (lay (script src table) depth))

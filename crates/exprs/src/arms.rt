@@ -9,15 +9,15 @@ use calls::lit;
 use gaps::arms::{
     arm_comma, close_arms, close_select, is_block_arm, open_arm, open_match, open_select,
 };
-use kinds::bytes;
-use lent::formatter::{Formatter, refuse};
+use kinds::Kind;
+use lent::formatter::Formatter;
 use lent::ring::Queue;
 use meaning::answer::Refusal;
 use meaning::call::Literal;
 use parts::args::{arm_pat, guard_kind};
 use parts::spaced::{between, take_guard, word};
 use tree::record::RecordNo;
-use walk::stream::{Stream, left_over, next_is, pump, records_of};
+use walk::stream::{Stream, records_of};
 use walk::tokens::token;
 
 impl Lay {
@@ -35,21 +35,21 @@ impl Lay {
         ensures { Parses src table fmt queue out depth select k }
     {
         let mut p = records_of(table, k);
-        word(src, table, fmt, queue, out, &mut p, bytes::KW_SELECT);
-        if next_is(table, &p, bytes::BRACE_OPEN) {
+        word(src, table, fmt, queue, out, &mut p, Kind::Select);
+        if p.next_is(table, Kind::OpenBrace) {
             open_select(src, table, fmt, queue, out, &mut p);
-            while next_is(table, &p, bytes::SELECT_ARM) {
-                let n = pump(table, fmt, &mut p);
+            while p.next_is(table, Kind::ExprSelectArm) {
+                let n = p.pump(table, fmt);
                 before_line(src, table, fmt, queue, out);
                 Lay::arm(src, table, fmt, queue, out, n, false, depth);
                 arm_comma(src, table, fmt, queue, out, &mut p, is_block_arm(table, n));
             }
             close_select(src, table, fmt, queue, out, &mut p);
-            left_over(table, fmt, &p);
+            p.left_over(table, fmt);
             return;
         }
         lit(src, table, fmt, queue, out, Literal::Braces);
-        left_over(table, fmt, &p);
+        p.left_over(table, fmt);
     }
 
     // An arm: in a select `default` or a pattern, then a value or none; in a match a pattern, then a guard or none; `=>` and its body.
@@ -67,17 +67,17 @@ impl Lay {
         ensures { Lays src table fmt queue out depth (Rule.Arm in_match) k }
     {
         if depth == 0 {
-            refuse(fmt, Refusal::TreeDeep(k));
+            fmt.refuse(Refusal::TreeDeep(k));
             return;
         }
         let mut p = records_of(table, k);
         arm_pat(src, table, fmt, queue, out, &mut p, in_match);
         let kind = guard_kind(in_match);
         Lay::guard(src, table, fmt, queue, out, &mut p, kind, depth - 1);
-        between(src, table, fmt, queue, out, &mut p, bytes::ROCKET);
-        let n = pump(table, fmt, &mut p);
+        between(src, table, fmt, queue, out, &mut p, Kind::Rocket);
+        let n = p.pump(table, fmt);
         Lay::expr(src, table, fmt, queue, out, n, false, depth - 1);
-        left_over(table, fmt, &p);
+        p.left_over(table, fmt);
     }
 
     // What may stand in front of `=>`: the value of a select arm behind its `=`, the guard of a match arm behind its `if`.
@@ -94,7 +94,7 @@ impl Lay {
     )
         ensures { Steps src table fmt queue out p depth (λ x lay. guard x lay kind) }
     {
-        if next_is(table, p, kind) {
+        if p.next_is(table, kind) {
             between(src, table, fmt, queue, out, p, kind);
             let n = take_guard(table, fmt, p, kind);
             Lay::expr(src, table, fmt, queue, out, n, false, depth);
@@ -115,20 +115,20 @@ impl Lay {
         ensures { Parses src table fmt queue out depth matches k }
     {
         let mut p = records_of(table, k);
-        word(src, table, fmt, queue, out, &mut p, bytes::KW_MATCH);
-        let n = pump(table, fmt, &mut p);
+        word(src, table, fmt, queue, out, &mut p, Kind::Match);
+        let n = p.pump(table, fmt);
         Lay::expr(src, table, fmt, queue, out, n, false, depth);
         open_match(src, table, fmt, queue, out, &mut p);
         let mut seen = false;
-        while next_is(table, &p, bytes::MATCH_ARM) {
-            let n = pump(table, fmt, &mut p);
+        while p.next_is(table, Kind::ExprMatchArm) {
+            let n = p.pump(table, fmt);
             open_arm(src, table, fmt, queue, out, seen);
             Lay::arm(src, table, fmt, queue, out, n, true, depth);
             arm_comma(src, table, fmt, queue, out, &mut p, is_block_arm(table, n));
             seen = true;
         }
         close_arms(src, table, fmt, queue, out, seen);
-        token(src, table, fmt, queue, out, &mut p, bytes::BRACE_CLOSE);
-        left_over(table, fmt, &p);
+        token(src, table, fmt, queue, out, &mut p, Kind::CloseBrace);
+        p.left_over(table, fmt);
     }
 }

@@ -7,8 +7,8 @@ ghost use Rattle.exprs.specs.Lay.{Lays, Steps, lay};
 use crate::Lay;
 use calls::comments;
 use gaps::statements::{enter, gap, is_spread, leave, semicolon};
-use kinds::bytes;
-use lent::formatter::{Formatter, refuse};
+use kinds::Kind;
+use lent::formatter::Formatter;
 use lent::ring::Queue;
 use meaning::answer::Refusal;
 use meaning::call::Hint;
@@ -16,7 +16,7 @@ use parts::sorts::{is_item, is_let};
 use paths::attribute::inner_attributes;
 use tree::record::RecordNo;
 use tree::table::kind_at;
-use walk::stream::{Stream, expect, has_next, left_over, pump, records_of};
+use walk::stream::{Stream, records_of};
 use walk::tokens::token;
 
 impl Lay {
@@ -35,15 +35,15 @@ impl Lay {
         ensures { Lays src table fmt queue out depth (Rule.Block compact) k }
     {
         if depth == 0 {
-            refuse(fmt, Refusal::TreeDeep(k));
+            fmt.refuse(Refusal::TreeDeep(k));
             return;
         }
         let mut p = records_of(table, k);
-        token(src, table, fmt, queue, out, &mut p, bytes::BRACE_OPEN);
-        let n = expect(table, fmt, &mut p, bytes::BLOCK_BODY);
+        token(src, table, fmt, queue, out, &mut p, Kind::OpenBrace);
+        let n = p.expect(table, fmt, Kind::BlockBody);
         Lay::body(src, table, fmt, queue, out, n, compact, depth - 1);
-        token(src, table, fmt, queue, out, &mut p, bytes::BRACE_CLOSE);
-        left_over(table, fmt, &p);
+        token(src, table, fmt, queue, out, &mut p, Kind::CloseBrace);
+        p.left_over(table, fmt);
     }
 
     // A compact one that has no statement stays on its line.
@@ -61,7 +61,7 @@ impl Lay {
         ensures { Lays src table fmt queue out depth (Rule.Body compact) k }
     {
         if depth == 0 {
-            refuse(fmt, Refusal::TreeDeep(k));
+            fmt.refuse(Refusal::TreeDeep(k));
             return;
         }
         let mut p = records_of(table, k);
@@ -69,7 +69,7 @@ impl Lay {
         enter(src, table, fmt, queue, out, spread);
         Lay::stmts(src, table, fmt, queue, out, &mut p, depth - 1);
         leave(src, table, fmt, queue, out, spread);
-        left_over(table, fmt, &p);
+        p.left_over(table, fmt);
     }
 
     // `block_content`: inner attributes, then statements with their semicolons.
@@ -87,8 +87,8 @@ impl Lay {
     {
         inner_attributes(src, table, fmt, queue, out, p);
         let mut last: u8 = 0;
-        while has_next(table, p) {
-            let n = pump(table, fmt, p);
+        while p.has_next(table) {
+            let n = p.pump(table, fmt);
             let kind = kind_at(table, n);
             gap(src, table, fmt, queue, out, last, kind);
             comments(src, table, fmt, queue, out, Hint::Line);

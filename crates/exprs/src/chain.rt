@@ -5,7 +5,7 @@ ghost use Rattle.exprs.specs.Lay.{Lays, Parses};
 
 use crate::Lay;
 use kinds::bytes;
-use lent::formatter::{Formatter, refuse};
+use lent::formatter::Formatter;
 use lent::ring::Queue;
 use loose::chain::chain_from;
 use meaning::answer::Refusal;
@@ -14,12 +14,12 @@ use parts::links::{
 };
 use tree::record::RecordNo;
 use tree::table::kind_at;
-use walk::stream::{has_next, left_over, pump, records_of};
+use walk::stream::records_of;
 
 // The tokens around a call's arguments.
-const OPEN: u8 = bytes::PAREN_OPEN;
+pub const OPEN: u8 = bytes::PAREN_OPEN;
 
-const CLOSE: u8 = bytes::PAREN_CLOSE;
+pub const CLOSE: u8 = bytes::PAREN_CLOSE;
 
 impl Lay {
     // Its head, then links, each on its line or on a new one.
@@ -36,18 +36,18 @@ impl Lay {
         ensures { Parses src table fmt queue out depth chain k }
     {
         let mut p = records_of(table, k);
-        let head = pump(table, fmt, &mut p);
+        let head = p.pump(table, fmt);
         let from = chain_from(src, table, k, head);
         Lay::inner(src, table, fmt, queue, out, head, depth);
         let mut n: u32 = 0;
-        while has_next(table, &p) {
-            let link = pump(table, fmt, &mut p);
+        while p.has_next(table) {
+            let link = p.pump(table, fmt);
             break_link(src, table, fmt, queue, out, link, from, n);
             Lay::link(src, table, fmt, queue, out, link, depth);
             n += 1;
         }
         end_chain(src, table, fmt, queue, out, from, n);
-        left_over(table, fmt, &p);
+        p.left_over(table, fmt);
     }
 
     // A link, by its kind.
@@ -64,7 +64,7 @@ impl Lay {
         ensures { Lays src table fmt queue out depth Rule.Link k }
     {
         if depth == 0 {
-            refuse(fmt, Refusal::TreeDeep(k));
+            fmt.refuse(Refusal::TreeDeep(k));
             return;
         }
         let kind = kind_at(table, k);
@@ -76,12 +76,12 @@ impl Lay {
             bytes::EXPR_INDEX => {
                 let mut p = records_of(table, k);
                 open_index(src, table, fmt, queue, out, &mut p);
-                let n = pump(table, fmt, &mut p);
+                let n = p.pump(table, fmt);
                 Lay::expr(src, table, fmt, queue, out, n, false, depth - 1);
                 close_index(src, table, fmt, queue, out, &mut p);
-                left_over(table, fmt, &p);
+                p.left_over(table, fmt);
             }
-            _ => refuse(fmt, Refusal::WrongKind(k)),
+            _ => fmt.refuse(Refusal::WrongKind(k)),
         }
     }
 }

@@ -5,8 +5,8 @@ ghost use Rattle.exprs.specs.Lay.{Lays, Parses, Steps};
 
 use crate::Lay;
 use calls::{lit, write_owned, ws};
-use kinds::bytes;
-use lent::formatter::{Formatter, refuse};
+use kinds::{Kind, bytes};
+use lent::formatter::Formatter;
 use lent::ring::Queue;
 use meaning::answer::Refusal;
 use meaning::call::Literal;
@@ -15,7 +15,7 @@ use parts::heads::let_head;
 use parts::spaced::{between, expect_expr, word};
 use tree::record::RecordNo;
 use tree::table::kind_at;
-use walk::stream::{Stream, expect, has_next, left_over, next_is, pump, records_of};
+use walk::stream::{Stream, records_of};
 
 impl Lay {
     // A word, then a condition that is a node of its own or an expression, and a space.
@@ -33,8 +33,8 @@ impl Lay {
         ensures { Steps src table fmt queue out p depth (λ x lay. condition x lay kind) }
     {
         word(src, table, fmt, queue, out, p, kind);
-        if next_is(table, p, bytes::CONDITION) {
-            let n = pump(table, fmt, p);
+        if p.next_is(table, Kind::Condition) {
+            let n = p.pump(table, fmt);
             Lay::let_(src, table, fmt, queue, out, n, false, depth);
             ws(src, table, fmt, queue, out);
             return;
@@ -59,14 +59,14 @@ impl Lay {
         ensures { Lays src table fmt queue out depth (Rule.Let local) k }
     {
         if depth == 0 {
-            refuse(fmt, Refusal::TreeDeep(k));
+            fmt.refuse(Refusal::TreeDeep(k));
             return;
         }
         let mut p = records_of(table, k);
         let_head(src, table, fmt, queue, out, &mut p, local);
         let n = expect_expr(table, fmt, &mut p);
         Lay::expr(src, table, fmt, queue, out, n, false, depth - 1);
-        left_over(table, fmt, &p);
+        p.left_over(table, fmt);
     }
 
     // `if`, and whatever stands behind its block.
@@ -84,16 +84,16 @@ impl Lay {
     {
         let mut p = records_of(table, k);
         Lay::cond(src, table, fmt, queue, out, &mut p, bytes::KW_IF, depth);
-        if next_is(table, &p, bytes::BLOCK) {
-            let n = pump(table, fmt, &mut p);
+        if p.next_is(table, Kind::Block) {
+            let n = p.pump(table, fmt);
             Lay::block(src, table, fmt, queue, out, n, false, depth);
             Lay::tail(src, table, fmt, queue, out, &mut p, depth);
-            left_over(table, fmt, &p);
+            p.left_over(table, fmt);
             return;
         }
         lit(src, table, fmt, queue, out, Literal::Braces);
         Lay::tail(src, table, fmt, queue, out, &mut p, depth);
-        left_over(table, fmt, &p);
+        p.left_over(table, fmt);
     }
 
     // What stands behind the block of an `if`.
@@ -109,8 +109,8 @@ impl Lay {
     )
         ensures { Steps src table fmt queue out p depth tail }
     {
-        while has_next(table, p) {
-            let n = pump(table, fmt, p);
+        while p.has_next(table) {
+            let n = p.pump(table, fmt);
             Lay::else_(src, table, fmt, queue, out, n, depth);
         }
     }
@@ -129,25 +129,25 @@ impl Lay {
         ensures { Lays src table fmt queue out depth Rule.Else k }
     {
         if depth == 0 {
-            refuse(fmt, Refusal::TreeDeep(k));
+            fmt.refuse(Refusal::TreeDeep(k));
             return;
         }
         let kind = kind_at(table, k);
         match kind {
             bytes::EXPR_ELSE => {
                 let mut p = records_of(table, k);
-                between(src, table, fmt, queue, out, &mut p, bytes::KW_ELSE);
-                let n = expect(table, fmt, &mut p, bytes::BLOCK);
+                between(src, table, fmt, queue, out, &mut p, Kind::Else);
+                let n = p.expect(table, fmt, Kind::Block);
                 Lay::block(src, table, fmt, queue, out, n, false, depth - 1);
-                left_over(table, fmt, &p);
+                p.left_over(table, fmt);
             }
             bytes::EXPR_ELSE_IF => {
                 let mut p = records_of(table, k);
-                between(src, table, fmt, queue, out, &mut p, bytes::KW_ELSE);
+                between(src, table, fmt, queue, out, &mut p, Kind::Else);
                 Lay::cond(src, table, fmt, queue, out, &mut p, bytes::KW_IF, depth - 1);
-                let n = expect(table, fmt, &mut p, bytes::BLOCK);
+                let n = p.expect(table, fmt, Kind::Block);
                 Lay::block(src, table, fmt, queue, out, n, false, depth - 1);
-                left_over(table, fmt, &p);
+                p.left_over(table, fmt);
             }
             _ => write_owned(src, table, fmt, queue, out, k),
         }
@@ -171,24 +171,24 @@ impl Lay {
         match kind {
             bytes::EXPR_WHILE => {
                 Lay::cond(src, table, fmt, queue, out, &mut p, bytes::KW_WHILE, depth);
-                let n = expect(table, fmt, &mut p, bytes::BLOCK);
+                let n = p.expect(table, fmt, Kind::Block);
                 Lay::block(src, table, fmt, queue, out, n, false, depth);
-                left_over(table, fmt, &p);
+                p.left_over(table, fmt);
             }
             bytes::EXPR_LOOP => {
-                word(src, table, fmt, queue, out, &mut p, bytes::KW_LOOP);
-                let n = expect(table, fmt, &mut p, bytes::BLOCK);
+                word(src, table, fmt, queue, out, &mut p, Kind::Loop);
+                let n = p.expect(table, fmt, Kind::Block);
                 Lay::block(src, table, fmt, queue, out, n, false, depth);
-                left_over(table, fmt, &p);
+                p.left_over(table, fmt);
             }
             _ => {
                 for_in(src, table, fmt, queue, out, &mut p);
-                let n = pump(table, fmt, &mut p);
+                let n = p.pump(table, fmt);
                 Lay::expr(src, table, fmt, queue, out, n, false, depth);
                 ws(src, table, fmt, queue, out);
-                let n = expect(table, fmt, &mut p, bytes::BLOCK);
+                let n = p.expect(table, fmt, Kind::Block);
                 Lay::block(src, table, fmt, queue, out, n, false, depth);
-                left_over(table, fmt, &p);
+                p.left_over(table, fmt);
             }
         }
     }

@@ -5,8 +5,8 @@ ghost use Rattle.exprs.specs.Lay.{flow, Lays, lay};
 
 use crate::Lay;
 use calls::comments;
-use kinds::bytes;
-use lent::formatter::{Formatter, refuse};
+use kinds::{Kind, bytes};
+use lent::formatter::Formatter;
 use lent::ring::Queue;
 use meaning::answer::Refusal;
 use meaning::call::Hint;
@@ -16,7 +16,7 @@ use parts::sorts::{is_lead, is_loop, is_range};
 use parts::spaced::{between, expect_expr};
 use tree::record::RecordNo;
 use tree::table::kind_at;
-use walk::stream::{left_over, pump, records_of};
+use walk::stream::records_of;
 
 impl Lay {
     // What may stand in front of it, then one node or token. In a group (871, 892) comments stand around both, and what is left over is
@@ -35,23 +35,23 @@ impl Lay {
         ensures { Lays src table fmt queue out depth (asked grouped) k }
     {
         if depth == 0 {
-            refuse(fmt, Refusal::TreeDeep(k));
+            fmt.refuse(Refusal::TreeDeep(k));
             return;
         }
         let mut p = records_of(table, k);
         if grouped {
             comments(src, table, fmt, queue, out, Hint::Prefix);
             before_expr(src, table, fmt, queue, out, &mut p);
-            let n = pump(table, fmt, &mut p);
+            let n = p.pump(table, fmt);
             Lay::inner(src, table, fmt, queue, out, n, depth - 1);
             comments(src, table, fmt, queue, out, Hint::Suffix);
-            left_over(table, fmt, &p);
+            p.left_over(table, fmt);
             return;
         }
         before_expr(src, table, fmt, queue, out, &mut p);
-        let n = pump(table, fmt, &mut p);
+        let n = p.pump(table, fmt);
         Lay::inner(src, table, fmt, queue, out, n, depth - 1);
-        left_over(table, fmt, &p);
+        p.left_over(table, fmt);
     }
 
     // `inner_expr`: the node's kind names the rule.
@@ -68,7 +68,7 @@ impl Lay {
         ensures { Lays src table fmt queue out depth Rule.Inner k }
     {
         if depth == 0 {
-            refuse(fmt, Refusal::TreeDeep(k));
+            fmt.refuse(Refusal::TreeDeep(k));
             return;
         }
         let kind = kind_at(table, k);
@@ -129,10 +129,10 @@ impl Lay {
                 let mut p = records_of(table, k);
                 let n = expect_expr(table, fmt, &mut p);
                 Lay::expr(src, table, fmt, queue, out, n, false, depth);
-                between(src, table, fmt, queue, out, &mut p, bytes::EQ);
+                between(src, table, fmt, queue, out, &mut p, Kind::Eq);
                 let n = expect_expr(table, fmt, &mut p);
                 Lay::expr(src, table, fmt, queue, out, n, false, depth);
-                left_over(table, fmt, &p);
+                p.left_over(table, fmt);
             }
             _ => lone(src, table, fmt, queue, out, k),
         }

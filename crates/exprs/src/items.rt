@@ -4,8 +4,8 @@ ghost use Rattle.exprs.specs.Lay.{Lays};
 
 use crate::Lay;
 use gaps::blocks::{asks_block, before_block, no_block};
-use kinds::bytes;
-use lent::formatter::{Formatter, refuse};
+use kinds::{Kind, bytes};
+use lent::formatter::Formatter;
 use lent::ring::Queue;
 use meaning::answer::Refusal;
 use parts::heads::item_head;
@@ -15,7 +15,7 @@ use paths::attribute::attributes;
 use paths::modifier::modifiers;
 use tree::record::RecordNo;
 use tree::table::kind_at;
-use walk::stream::{expect, left_over, pump, records_of};
+use walk::stream::records_of;
 
 impl Lay {
     // Attributes, then the item itself.
@@ -32,14 +32,14 @@ impl Lay {
         ensures { Lays src table fmt queue out depth Rule.Item k }
     {
         if depth == 0 {
-            refuse(fmt, Refusal::TreeDeep(k));
+            fmt.refuse(Refusal::TreeDeep(k));
             return;
         }
         let mut p = records_of(table, k);
         attributes(src, table, fmt, queue, out, &mut p);
-        let n = pump(table, fmt, &mut p);
+        let n = p.pump(table, fmt);
         Lay::decl(src, table, fmt, queue, out, n, depth - 1);
-        left_over(table, fmt, &p);
+        p.left_over(table, fmt);
     }
 
     // Modifiers, the head, then the value of a const, or a block, or neither.
@@ -56,7 +56,7 @@ impl Lay {
         ensures { Lays src table fmt queue out depth Rule.Decl k }
     {
         if depth == 0 {
-            refuse(fmt, Refusal::TreeDeep(k));
+            fmt.refuse(Refusal::TreeDeep(k));
             return;
         }
         let kind = kind_at(table, k);
@@ -65,20 +65,20 @@ impl Lay {
             modifiers(src, table, fmt, queue, out, &mut p);
             item_head(src, table, fmt, queue, out, &mut p, kind);
             if kind == bytes::ITEM_CONST {
-                let n = pump(table, fmt, &mut p);
+                let n = p.pump(table, fmt);
                 Lay::expr(src, table, fmt, queue, out, n, false, depth - 1);
-                left_over(table, fmt, &p);
+                p.left_over(table, fmt);
                 return;
             }
             if asks_block(table, &p, kind) {
                 before_block(src, table, fmt, queue, out, kind);
-                let n = expect(table, fmt, &mut p, bytes::BLOCK);
+                let n = p.expect(table, fmt, Kind::Block);
                 Lay::block(src, table, fmt, queue, out, n, false, depth - 1);
-                left_over(table, fmt, &p);
+                p.left_over(table, fmt);
                 return;
             }
             no_block(src, table, fmt, queue, out, kind);
-            left_over(table, fmt, &p);
+            p.left_over(table, fmt);
             return;
         }
         no_item(table, fmt, k);

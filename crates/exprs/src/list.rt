@@ -5,18 +5,18 @@ ghost use Rattle.exprs.specs.Lay.{Parses, Steps};
 use crate::Lay;
 use calls::comments;
 use gaps::lines::{close_lines, end_entry, open_lines};
-use kinds::bytes;
+use kinds::Kind;
 use lent::formatter::Formatter;
 use lent::ring::Queue;
 use loose::reason::goes_loose;
 use meaning::call::Hint;
 use parts::spaced::next_expr;
-use patterns::pat_parts::{close_tuple, more};
-use steps::items::{before_item, behind_item, close_list};
-use steps::remaining::fresh;
+use patterns::pat_parts::close_tuple;
+use steps::items::{Few, before_item, behind_item, close_list};
+use steps::remaining::Remaining;
 use tree::cursor::children_of;
 use tree::record::RecordNo;
-use walk::stream::{Stream, left_over, pump, records_of};
+use walk::stream::{Stream, records_of};
 use walk::tokens::token;
 
 impl Lay {
@@ -41,19 +41,19 @@ impl Lay {
         if loose {
             Lay::loose(src, table, fmt, queue, out, &mut p, depth);
             token(src, table, fmt, queue, out, &mut p, closing);
-            left_over(table, fmt, &p);
+            p.left_over(table, fmt);
             return;
         }
-        let mut comma = fresh();
+        let mut comma = Remaining::Fresh;
         while next_expr(table, &p) {
             before_item(src, table, fmt, queue, out, comma);
-            let n = pump(table, fmt, &mut p);
+            let n = p.pump(table, fmt);
             Lay::expr(src, table, fmt, queue, out, n, false, depth);
             comma = behind_item(src, table, fmt, queue, out, &mut p);
         }
         close_list(src, table, fmt, queue, out, comma);
         token(src, table, fmt, queue, out, &mut p, closing);
-        left_over(table, fmt, &p);
+        p.left_over(table, fmt);
     }
 
     // `exprs_loose`: each on a line of its own.
@@ -71,7 +71,7 @@ impl Lay {
     {
         open_lines(src, table, fmt, queue, out);
         while next_expr(table, p) {
-            let n = pump(table, fmt, p);
+            let n = p.pump(table, fmt);
             comments(src, table, fmt, queue, out, Hint::Line);
             Lay::expr(src, table, fmt, queue, out, n, false, depth);
             end_entry(src, table, fmt, queue, out, p);
@@ -93,18 +93,18 @@ impl Lay {
         ensures { Parses src table fmt queue out depth tuple k }
     {
         let mut p = records_of(table, k);
-        token(src, table, fmt, queue, out, &mut p, bytes::PAREN_OPEN);
-        let mut count: u8 = 0;
-        let mut comma = fresh();
+        token(src, table, fmt, queue, out, &mut p, Kind::OpenParenthesis);
+        let mut count = Few::Zero;
+        let mut comma = Remaining::Fresh;
         while next_expr(table, &p) {
             before_item(src, table, fmt, queue, out, comma);
-            let n = pump(table, fmt, &mut p);
+            let n = p.pump(table, fmt);
             Lay::expr(src, table, fmt, queue, out, n, false, depth);
             comma = behind_item(src, table, fmt, queue, out, &mut p);
-            count = more(count);
+            count = count.more();
         }
         close_tuple(src, table, fmt, queue, out, comma, count, true);
-        token(src, table, fmt, queue, out, &mut p, bytes::PAREN_CLOSE);
-        left_over(table, fmt, &p);
+        token(src, table, fmt, queue, out, &mut p, Kind::CloseParenthesis);
+        p.left_over(table, fmt);
     }
 }

@@ -5,15 +5,15 @@ ghost use Rattle.exprs.specs.Lay.{Parses, Steps};
 use crate::Lay;
 use calls::ws;
 use gaps::lines::{close_keys, end_entry, key_line, next_key, open_lines};
-use kinds::bytes;
+use kinds::Kind;
 use lent::formatter::Formatter;
 use lent::ring::Queue;
 use loose::reason::goes_loose;
 use patterns::pat_parts::{close_object, object_name};
-use steps::remaining::{Mark, fresh, put_remaining, take_remaining};
+use steps::remaining::{Mark, Remaining, put_remaining, take_remaining};
 use tree::cursor::behind;
 use tree::record::RecordNo;
-use walk::stream::{Stream, left_over, next_is, peek, pump, records_of};
+use walk::stream::{Stream, records_of};
 use walk::tokens::{any, token};
 
 impl Lay {
@@ -32,23 +32,25 @@ impl Lay {
         ensures { Parses src table fmt queue out depth object k }
     {
         let mut p = records_of(table, k);
-        let loose = goes_loose(src, table, k, behind(table, peek(table, &p)), true);
+        // no Option: `goes_loose` counts from the record behind it; where there is none, definition `behind_name` has the tree's end
+        let name = p.peek(table).unwrap_or(RecordNo(8192));
+        let loose = goes_loose(src, table, k, behind(table, name), true);
         object_name(src, table, fmt, queue, out, &mut p);
-        token(src, table, fmt, queue, out, &mut p, bytes::BRACE_OPEN);
+        token(src, table, fmt, queue, out, &mut p, Kind::OpenBrace);
         if loose {
             Lay::rows(src, table, fmt, queue, out, &mut p, depth);
-            left_over(table, fmt, &p);
+            p.left_over(table, fmt);
             return;
         }
-        let mut comma = fresh();
-        while next_is(table, &p, bytes::OBJ_KEY) {
+        let mut comma = Remaining::Fresh;
+        while p.next_is(table, Kind::ObjectKey) {
             next_key(src, table, fmt, queue, out, &mut p, comma);
             Lay::pair(src, table, fmt, queue, out, &mut p, depth);
             comma = take_remaining(table, fmt, &mut p, Mark::Comma);
         }
         close_object(src, table, fmt, queue, out, comma);
         put_remaining(src, table, fmt, queue, out, &mut p, Mark::CloseBrace);
-        left_over(table, fmt, &p);
+        p.left_over(table, fmt);
     }
 
     // `expr_object_loose`: each key on a line of its own.
@@ -65,7 +67,7 @@ impl Lay {
         ensures { Steps src table fmt queue out p depth rows }
     {
         open_lines(src, table, fmt, queue, out);
-        while next_is(table, p, bytes::OBJ_KEY) {
+        while p.next_is(table, Kind::ObjectKey) {
             key_line(src, table, fmt, queue, out, p);
             Lay::pair(src, table, fmt, queue, out, p, depth);
             end_entry(src, table, fmt, queue, out, p);
@@ -86,10 +88,10 @@ impl Lay {
     )
         ensures { Steps src table fmt queue out p depth pair }
     {
-        if next_is(table, p, bytes::COLON) {
+        if p.next_is(table, Kind::Colon) {
             any(src, table, fmt, queue, out, p);
             ws(src, table, fmt, queue, out);
-            let n = pump(table, fmt, p);
+            let n = p.pump(table, fmt);
             Lay::expr(src, table, fmt, queue, out, n, false, depth);
         }
     }

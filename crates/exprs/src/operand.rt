@@ -3,10 +3,10 @@ ghost use Rattle.exprs.specs.Operand.{binary, range, group, lead};
 ghost use Rattle.exprs.specs.Lay.{Parses};
 
 use crate::Lay;
+use crate::chain::{CLOSE, OPEN};
 use calls::comments;
 use gaps::statements::group_end;
-use kinds::bytes;
-use kinds::bytes::{PAREN_CLOSE, PAREN_OPEN};
+use kinds::{Kind, bytes};
 use lent::formatter::Formatter;
 use lent::ring::Queue;
 use meaning::call::Hint;
@@ -15,7 +15,7 @@ use parts::sorts::is_prefix;
 use parts::spaced::{between, next_expr};
 use tree::record::RecordNo;
 use tree::table::kind_at;
-use walk::stream::{left_over, next_is, pump, records_of};
+use walk::stream::records_of;
 use walk::tokens::any;
 
 impl Lay {
@@ -33,14 +33,14 @@ impl Lay {
         ensures { Parses src table fmt queue out depth binary k }
     {
         let mut p = records_of(table, k);
-        let n = pump(table, fmt, &mut p);
+        let n = p.pump(table, fmt);
         Lay::inner(src, table, fmt, queue, out, n, depth);
-        while next_is(table, &p, bytes::OPERATOR) {
-            between(src, table, fmt, queue, out, &mut p, bytes::OPERATOR);
-            let n = pump(table, fmt, &mut p);
+        while p.next_is(table, Kind::ExprOperator) {
+            between(src, table, fmt, queue, out, &mut p, Kind::ExprOperator);
+            let n = p.pump(table, fmt);
             Lay::inner(src, table, fmt, queue, out, n, depth);
         }
-        left_over(table, fmt, &p);
+        p.left_over(table, fmt);
     }
 
     // An operator with an operand behind it, before it, or both: `expr_unary` and the ranges.
@@ -60,21 +60,21 @@ impl Lay {
         let mut p = records_of(table, k);
         if is_prefix(kind) {
             any(src, table, fmt, queue, out, &mut p);
-            let n = pump(table, fmt, &mut p);
+            let n = p.pump(table, fmt);
             Lay::inner(src, table, fmt, queue, out, n, depth);
-            left_over(table, fmt, &p);
+            p.left_over(table, fmt);
             return;
         }
-        let n = pump(table, fmt, &mut p);
+        let n = p.pump(table, fmt);
         Lay::inner(src, table, fmt, queue, out, n, depth);
         any(src, table, fmt, queue, out, &mut p);
         if kind == bytes::RANGE_FROM {
-            left_over(table, fmt, &p);
+            p.left_over(table, fmt);
             return;
         }
-        let n = pump(table, fmt, &mut p);
+        let n = p.pump(table, fmt);
         Lay::inner(src, table, fmt, queue, out, n, depth);
-        left_over(table, fmt, &p);
+        p.left_over(table, fmt);
     }
 
     // An expression or none, in parentheses or between the marks of an empty group.
@@ -92,17 +92,17 @@ impl Lay {
         ensures { Parses src table fmt queue out depth (λ x lay. group x lay empty) k }
     {
         let mut p = records_of(table, k);
-        group_end(src, table, fmt, queue, out, &mut p, empty, PAREN_OPEN);
+        group_end(src, table, fmt, queue, out, &mut p, empty, OPEN);
         if next_expr(table, &p) {
-            let n = pump(table, fmt, &mut p);
+            let n = p.pump(table, fmt);
             Lay::expr(src, table, fmt, queue, out, n, true, depth);
-            group_end(src, table, fmt, queue, out, &mut p, empty, PAREN_CLOSE);
-            left_over(table, fmt, &p);
+            group_end(src, table, fmt, queue, out, &mut p, empty, CLOSE);
+            p.left_over(table, fmt);
             return;
         }
         comments(src, table, fmt, queue, out, Hint::Infix);
-        group_end(src, table, fmt, queue, out, &mut p, empty, PAREN_CLOSE);
-        left_over(table, fmt, &p);
+        group_end(src, table, fmt, queue, out, &mut p, empty, CLOSE);
+        p.left_over(table, fmt);
     }
 
     // A closure or a jump: `|a| b`, `break`, `continue`, `return`, `yield`.
@@ -123,12 +123,12 @@ impl Lay {
         lead_head(src, table, fmt, queue, out, &mut p, kind);
         if lead_takes(table, &p, kind) {
             before_value(src, table, fmt, queue, out, kind);
-            let n = pump(table, fmt, &mut p);
+            let n = p.pump(table, fmt);
             Lay::expr(src, table, fmt, queue, out, n, false, depth);
-            left_over(table, fmt, &p);
+            p.left_over(table, fmt);
             return;
         }
         no_value(src, table, fmt, queue, out, kind);
-        left_over(table, fmt, &p);
+        p.left_over(table, fmt);
     }
 }

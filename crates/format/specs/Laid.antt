@@ -5,7 +5,7 @@ use Rattle.meaning.specs.Opening.{script_in}
 use Rattle.meaning.specs.State.{Script}
 use Rattle.meaning.specs.World.{Result}
 use Rattle.meaning.specs.Plan.{Plan, exec}
-use Rattle.lent.specs.Loans.{Loan, MutLoan, Engine, reads, before, after}
+use Rattle.lent.specs.Loans.{Loan, MutLoan, FormatterLoan, Engine, reads, before, after}
 use Rattle.entry.specs.declared.state.State as code
 use Rattle.entry.specs.Ended.{begun, run_left}
 use Rattle.rules.specs.Rules.{layout}
@@ -19,11 +19,11 @@ plan_of x All = whole x
 
 -- ---- in place
 
--- the plan runs on what the checks leave of the lent words
+-- the plan runs on what the checks leave of the lent formatter, ring and buffer
 pub record Ran (src tree : List ℕ) (w : Wanted) (e e' : Engine) : Type 0 where
   pub out : reads e' ≡ exec (script_in src tree) (plan_of (script_in src tree) w) (begun src e.fmt e.queue e.out)
 
-abbrev pub RanOn : Loan → Loan → MutLoan → MutLoan → MutLoan → Wanted → Type 0
+abbrev pub RanOn : Loan → Loan → FormatterLoan → MutLoan → MutLoan → Wanted → Type 0
 RanOn source tree fmt queue out w = Ran source.entry.now tree.entry.now w (before fmt queue out) (after fmt queue out)
 
 -- ---- by value, from the lent state s and the buffer b

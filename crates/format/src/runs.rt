@@ -1,7 +1,6 @@
 // A run: the checks on what is lent, 10, then the calls of its plan; in place, or by value with its end.
 ghost use Rattle.std.specs.Prelude.{◌≡◌};
 ghost use Rattle.meaning.specs.Opening.{opening};
-ghost use Rattle.lent.specs.Words.{run_of};
 ghost use Rattle.entry.specs.Room.{Room};
 ghost use Rattle.entry.specs.Served.{Served};
 ghost use Rattle.format.specs.Laid.{RanOn, laid, laid_out, laid_whole};
@@ -9,7 +8,7 @@ ghost use Rattle.format.specs.Laid.{RanOn, laid, laid_out, laid_whole};
 use crate::ended::ended;
 use entry::checks::{lent, opening};
 use entry::state::{State, Step, started};
-use lent::formatter::{Formatter, stops};
+use lent::formatter::Formatter;
 use lent::ring::Queue;
 use rules::node::layout;
 use rules::whole::whole;
@@ -39,20 +38,20 @@ fn run_over(
     out: &mut [u8],
     w: Wanted,
 )
-    requires { (Room tree.now words.old) × ((run_of fmt.old).answer ≡ opening source.now tree.now) }
+    requires { (Room tree.now words.old) × (fmt.old.answer ≡ opening source.now tree.now) }
     ensures { RanOn source tree fmt queue out w }
 {
     let n = decode(tree, words);
     lent(source, fmt, queue, out.len());
-    stops(fmt);
+    fmt.stops();
     match w {
         Wanted::Node(k) => layout(source, first(words, n), fmt, queue, out, k),
         Wanted::All => whole(source, first(words, n), fmt, queue, out),
     }
 }
 
-// In place: opening's answer stands in the words already, and so does the run's when it is done. Refused, the words are left as they are: whoever
-// lent them puts them back.
+// In place: opening's answer stands in the formatter already, and so does the run's when it is done. Refused, the formatter is left as it is: whoever
+// lent it puts it back.
 pub fn run_in(
     source: &[u8],
     tree: &[u8],
@@ -61,7 +60,7 @@ pub fn run_in(
     out: &mut [u8],
     w: Wanted,
 )
-    requires { (run_of fmt.old).answer ≡ opening source.now tree.now }
+    requires { fmt.old.answer ≡ opening source.now tree.now }
     ensures { RanOn source tree fmt queue out w }
 {
     if tree.len() <= TINY {

@@ -1,4 +1,5 @@
 -- Laws of statements and their blocks: the lines between two, and the semicolon. Assumes nothing.
+use Rattle.lent.specs.declared.formatter.Formatter.{Formatter}
 use Rattle.steps.proofs.Rules.{◌≡◌, Bool, true, false, List, ℕ, ne_eqb, Record, Suffix, Comments, Nl, Script}
 use Rattle.steps.proofs.Rules.{make, ◌then◌, Engine, engine, Makes, rest_then, nothing_made, Remaining, Stream, Goes}
 use Rattle.kinds.specs.declared.class.Class.{Class}
@@ -37,7 +38,7 @@ unfolding before_semi
 semi_none semi h q g = rw (h, ← q, g) nothing_made
 
 -- it is taken, then comments and the token
-pub semi_of : {x : Script} (rs : List Record) (kind : ℕ) {t : Bool} {s s' : Stream} {w w' q b : List ℕ} {r : Remaining} {e e' : Engine} → t ≡ needs_semi (kind_of kind) → Rests rs SemiColon s w w' r s'
+pub semi_of : {x : Script} (rs : List Record) (kind : ℕ) {t : Bool} {s s' : Stream} {w w' : Formatter} {q b : List ℕ} {r : Remaining} {e e' : Engine} → t ≡ needs_semi (kind_of kind) → Rests rs SemiColon s w w' r s'
     → Makes x (before_semi t r) (engine w' q b) e → Makes x (write_if t r) e e' → Goes x (semicolon rs kind) s (engine w q b) e' s'
 unfolding semicolon
 semi_of rs kind g a m n = rest_then (λ (r : Remaining). before_semi (needs_semi (kind_of kind)) r then write_if (needs_semi (kind_of kind)) r) a (rw (← g) (made.◌▹◌ m n))

@@ -1,10 +1,7 @@
 -- The arms of `select` and `match`: format.rs 1029 to 1135. Assumes nothing.
-use Rattle.std.specs.Prelude.{◌≡◌, ℕ, Bool, true, false, not, cond, List, [], ◌∷◌}
+use Rattle.std.specs.Prelude.{ℕ, Bool, true, false, not, cond, List, [], ◌∷◌, Option, Some, None}
 use Rattle.tree.specs.declared.record.Record.{Record}
 use Rattle.tree.specs.declared.record.RecordNo.{RecordNo}
-use Rattle.tree.specs.declared.cursor.Found.{Found}
-use Rattle.tree.specs.declared.cursor.Found.TheVariants.{At, None}
-use Rattle.tree.specs.Cursor.{found_of}
 use Rattle.kinds.specs.declared.Kind.{Kind}
 use Rattle.meaning.specs.declared.call.Hint.TheVariants.{Line, Infix}
 use Rattle.meaning.specs.declared.call.Call.TheVariants.{Comments, Indent, Nl, Ws}
@@ -16,27 +13,23 @@ use Rattle.steps.specs.Remaining.{remaining, write_only_if}
 
 -- ---- whether an arm's body is a block: the body is the arm's last record, and an expression's own node the last of its
 
-abbrev pub last_from : Found → List ℕ → Found
+abbrev pub last_from : Option RecordNo → List ℕ → Option RecordNo
 last_from f [] = f
-last_from f (k ∷ ks) = last_from (At (no k)) ks
+last_from f (k ∷ ks) = last_from (Some (no k)) ks
 
-unfoldable pub last_of : List Record → RecordNo → Found
+unfoldable pub last_of : List Record → RecordNo → Option RecordNo
 last_of rs k = last_from None (records_of rs k).left
 
-abbrev pub last_in : List Record → Found → Found
+abbrev pub last_in : List Record → Option RecordNo → Option RecordNo
 last_in rs None = None
-last_in rs (At k) = last_of rs k
+last_in rs (Some k) = last_of rs k
 
-abbrev pub is_found : List Record → Kind → Found → Bool
+abbrev pub is_found : List Record → Kind → Option RecordNo → Bool
 is_found rs kind None = false
-is_found rs kind (At k) = is rs kind k.0
+is_found rs kind (Some k) = is rs kind k.0
 
 unfoldable pub is_block_arm : List Record → RecordNo → Bool
 is_block_arm rs k = is_found rs Kind.Block (last_in rs (last_of rs k))
-
--- in the code a number, past the table where there is none
-pub record LastOf (rs : List Record) (k r : RecordNo) : Type 0 where
-  pub found : found_of r ≡ last_of rs k
 
 -- ---- around arms
 

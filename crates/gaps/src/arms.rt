@@ -3,27 +3,27 @@ ghost use Rattle.std.specs.Prelude.{◌≡◌};
 ghost use Rattle.lent.specs.Loans.{Made};
 ghost use Rattle.walk.specs.Stream.{tree};
 ghost use Rattle.walk.specs.Flow.{Walked};
-ghost use Rattle.gaps.specs.Arms.{LastOf, is_block_arm, arm_comma, open_select, open_match, open_arm, close_arms, close_select};
+ghost use Rattle.gaps.specs.Arms.{last_of, is_block_arm, arm_comma, open_select, open_match, open_arm, close_arms, close_select};
 
 use calls::{comments, indent, nl, ws};
-use kinds::bytes;
+use kinds::{Kind, bytes};
 use lent::formatter::Formatter;
 use lent::ring::Queue;
 use meaning::call::Hint;
 use steps::remaining::{Mark, take_remaining, write_only_if};
 use tree::record::RecordNo;
 use tree::table::kind_at;
-use walk::stream::{Stream, has_next, is_some, nothing, records_of, take};
+use walk::stream::{Stream, records_of};
 use walk::tokens::{any, token};
 
 // The last record of node k.
-fn last(table: &[u32], k: RecordNo) -> RecordNo
-    ensures { LastOf (tree table) k result }
+fn last(table: &[u32], k: RecordNo) -> Option<RecordNo>
+    ensures { result ≡ last_of (tree table) k }
 {
     let mut p = records_of(table, k);
-    let mut n = nothing();
-    while has_next(table, &p) {
-        n = take(table, &mut p);
+    let mut n = None;
+    while p.has_next(table) {
+        n = p.take(table);
     }
     n
 }
@@ -32,14 +32,13 @@ fn last(table: &[u32], k: RecordNo) -> RecordNo
 pub fn is_block_arm(table: &[u32], k: RecordNo) -> bool
     ensures { result ≡ is_block_arm (tree table) k }
 {
-    let body = last(table, k);
-    if is_some(body) {
-        let inner = last(table, body);
-        if is_some(inner) {
-            return kind_at(table, inner) == bytes::BLOCK;
-        }
-    }
-    false
+    let Some(body) = last(table, k) else {
+        return false;
+    };
+    let Some(inner) = last(table, body) else {
+        return false;
+    };
+    kind_at(table, inner) == bytes::BLOCK
 }
 
 // The comma behind an arm is not written where its body is a block.
@@ -85,10 +84,11 @@ pub fn open_match(
     ensures { Walked src table fmt queue out p (open_match (tree table)) }
 {
     ws(src, table, fmt, queue, out);
-    token(src, table, fmt, queue, out, p, bytes::BRACE_OPEN);
+    token(src, table, fmt, queue, out, p, Kind::OpenBrace);
 }
 
 // The first arm of a match indents.
+#[tactic(auto, unfolding(crate::specs::Arms::open_arm))]
 pub fn open_arm(
     src: &[u8],
     table: &[u32],
@@ -99,10 +99,9 @@ pub fn open_arm(
 )
     ensures { Made src table fmt queue out (open_arm any) }
 {
-    if any {
-        return;
+    if !any {
+        indent(src, table, fmt, queue, out, 1);
     }
-    indent(src, table, fmt, queue, out, 1);
 }
 
 // The end of a match: on a line of its own, if there was an arm.
@@ -137,5 +136,5 @@ pub fn close_select(
     ensures { Walked src table fmt queue out p (close_select (tree table)) }
 {
     close_arms(src, table, fmt, queue, out, true);
-    token(src, table, fmt, queue, out, p, bytes::BRACE_CLOSE);
+    token(src, table, fmt, queue, out, p, Kind::CloseBrace);
 }

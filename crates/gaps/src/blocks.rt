@@ -5,36 +5,27 @@ ghost use Rattle.walk.specs.Stream.{tree, stream_here};
 ghost use Rattle.gaps.specs.Blocks.{is_mod, asks_block, before_block, no_block};
 
 use calls::{lit, nl, ws};
-use kinds::bytes;
+use kinds::{Kind, bytes};
 use lent::formatter::Formatter;
 use lent::ring::Queue;
 use meaning::call::Literal;
-use walk::stream::{Stream, next_is};
+use walk::stream::Stream;
 
 // A module, in a file of its own or not.
+#[tactic(auto, unfolding(crate::specs::Blocks::is_mod, kinds::specs::Facts::byte_of, kinds::specs::Facts::facts_of))]
 fn is_mod(kind: u8) -> bool
     ensures { result ≡ is_mod kind }
 {
-    if kind == bytes::ITEM_MOD {
-        return true;
-    }
-    kind == bytes::ITEM_FILE_MOD
+    kind == bytes::ITEM_MOD || kind == bytes::ITEM_FILE_MOD
 }
 
 // Whether one stands there, or must.
+#[tactic(auto, unfolding(crate::specs::Blocks::asks_block, kinds::specs::Facts::byte_of, kinds::specs::Facts::facts_of))]
 pub fn asks_block(table: &[u32], p: &Stream, kind: u8) -> bool
     ensures { result ≡ asks_block (tree table) kind (stream_here table p) }
 {
-    if kind == bytes::ITEM_IMPL {
-        return true;
-    }
-    if kind == bytes::ITEM_FN {
-        return next_is(table, p, bytes::BLOCK);
-    }
-    if is_mod(kind) {
-        return next_is(table, p, bytes::BLOCK);
-    }
-    false
+    kind == bytes::ITEM_IMPL
+        || (kind == bytes::ITEM_FN || is_mod(kind)) && p.next_is(table, Kind::Block)
 }
 
 // The space in front of a module's; other heads end with one.

@@ -7,41 +7,30 @@ ghost use Rattle.steps.specs.Remaining.{remaining_of};
 ghost use Rattle.gaps.specs.Statements.{is_const, is_local, lines_of, gap, before_semi, semicolon, is_spread, enter, leave, group_end};
 
 use calls::{comments, ignore, indent, nl};
-use kinds::{Class, bytes, class_at, semi_at};
+use kinds::{Class, Kind, class_at, semi_at};
 use lent::formatter::Formatter;
 use lent::ring::Queue;
 use meaning::call::Hint;
-use steps::remaining::{Mark, Remaining, is_present, take_remaining, write_if};
-use walk::stream::{Stream, expect, has_next};
+use steps::remaining::{Mark, Remaining, take_remaining, write_if};
+use walk::stream::Stream;
 use walk::tokens::token;
 
 // A const statement: those stand together, format.rs 1650.
 fn is_const(class: Class) -> bool
     ensures { result ≡ is_const class }
 {
-    match class {
-        Class::Const => true,
-        Class::Item => false,
-        Class::Local => false,
-        Class::Other => false,
-        Class::None => false,
-    }
+    matches!(class, Class::Const)
 }
 
 // A `let`: those stand together as well, format.rs 1651.
 fn is_local(class: Class) -> bool
     ensures { result ≡ is_local class }
 {
-    match class {
-        Class::Local => true,
-        Class::Item => false,
-        Class::Const => false,
-        Class::Other => false,
-        Class::None => false,
-    }
+    matches!(class, Class::Local)
 }
 
 // Lines between two statements, by their classes.
+#[tactic(auto, unfolding(crate::specs::Statements::lines_of))]
 fn lines(last: Class, this: Class) -> u8
     ensures { result ≡ lines_of last this }
 {
@@ -49,12 +38,11 @@ fn lines(last: Class, this: Class) -> u8
         Class::Item => 2,
         Class::Const => if is_const(this) { 1 } else { 2 },
         Class::Local => if is_local(this) { 1 } else { 2 },
-        Class::Other => 1,
-        Class::None => 1,
+        Class::Other | Class::None => 1,
     }
 }
 
-// Lines before a statement, by the kind of the one before it; 00 where there is none.
+// Lines before a statement, by the kind of the one before it; 00 where there is none, and no Option: the definition `gap` is over the byte.
 pub fn gap(
     src: &[u8],
     table: &[u32],
@@ -90,11 +78,7 @@ fn before_semi(
 )
     ensures { Made src table fmt queue out (before_semi needed (remaining_of Mark.SemiColon semi)) }
 {
-    if needed {
-        comments(src, table, fmt, queue, out, Hint::Suffix);
-        return;
-    }
-    if is_present(semi) {
+    if needed || semi.is_present() {
         comments(src, table, fmt, queue, out, Hint::Suffix);
     }
 }
@@ -172,7 +156,7 @@ pub fn group_end(
     ensures { Walked src table fmt queue out p (group_end (tree table) empty paren) }
 {
     if empty {
-        let k = expect(table, fmt, p, bytes::EMPTY_OPEN);
+        let k = p.expect(table, fmt, Kind::OpenEmpty);
         ignore(src, table, fmt, queue, out, k);
         return;
     }
@@ -180,11 +164,9 @@ pub fn group_end(
 }
 
 // A block is spread over lines unless it is compact and empty.
+#[tactic(auto, unfolding(crate::specs::Statements::is_spread))]
 pub fn is_spread(table: &[u32], p: &Stream, compact: bool) -> bool
     ensures { result ≡ is_spread compact (stream_here table p) }
 {
-    if compact {
-        return has_next(table, p);
-    }
-    true
+    !compact || p.has_next(table)
 }

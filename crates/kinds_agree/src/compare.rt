@@ -1,73 +1,77 @@
 // The three lists, a row of each at a time, in the order of the bytes.
-use crate::text::{digit, line, next_line, part, word};
+use crate::text::{digit, line, next_lines, part, word};
 use crate::{document, table};
 
-// All agree, on so many kinds; or the first place of the code's list where another list does not.
+// Which list differs from the code's, and the code's row there; an empty one where the list has a row too many.
 #[derive(Clone, Copy)]
-pub enum Found {
-    Agree(usize),
-    Table(usize),
-    Document(usize),
+pub enum Differs<'a> {
+    Table(&'a [u8]),
+    Document(&'a [u8]),
 }
 
 // Two digits and a space, behind so many bytes: no line but a row has that.
 fn is_row(s: &[u8], behind: usize) -> bool {
-    let row = part(s, behind, s.len());
-    if 3 <= row.len() {
-        if digit(row[0]) < 16 {
-            if digit(row[1]) < 16 {
-                return row[2] == b' ';
-            }
-        }
+    match part(s, behind, s.len()) {
+        [high, low, b' ', ..] => digit(*high).is_some() && digit(*low).is_some(),
+        _ => false,
     }
-    false
 }
 
-// Where the first row from a line on begins, or the length.
-fn next_row(s: &[u8], from: usize, behind: usize) -> usize {
-    let mut at = from;
+// The lines from the first row on.
+fn from_row(s: &[u8], behind: usize) -> &[u8] {
+    let mut left = s;
     for _ in 0..s.len() {
-        if is_row(line(s, at), behind) {
-            return at;
+        if is_row(line(left), behind) {
+            return left;
         }
-        at = next_line(s, at);
+        left = next_lines(left);
     }
-    s.len()
+    &[]
 }
 
 // Behind the last kind of the code no other list has a row.
-fn ended(at: usize, n: usize, in_table: &[u8], in_document: &[u8]) -> Found {
-    if in_table.len() != 0 {
-        return Found::Table(at);
+fn ended<'a>(
+    own: &'a [u8],
+    n: usize,
+    in_table: &[u8],
+    in_document: &[u8],
+) -> Result<usize, Differs<'a>> {
+    if !in_table.is_empty() {
+        return Err(Differs::Table(own));
     }
-    if in_document.len() != 0 {
-        return Found::Document(at);
+    if !in_document.is_empty() {
+        return Err(Differs::Document(own));
     }
-    Found::Agree(n)
+    Ok(n)
 }
 
-pub fn compare(rows: &[u8], in_table: &[u8], in_document: &[u8]) -> Found {
-    let mut at = 0;
-    let mut t = 0;
-    let mut d = 0;
+// On how many kinds all agree, or the first row of the code's list where another list does not.
+pub fn compare<'a>(
+    rows: &'a [u8],
+    in_table: &[u8],
+    in_document: &[u8],
+) -> Result<usize, Differs<'a>> {
+    let mut rows = rows;
+    let mut in_table = in_table;
+    let mut in_document = in_document;
     for n in 0..257 {
-        t = next_row(in_table, t, 0);
-        d = next_row(in_document, d, 2);
-        let own = line(rows, at);
-        let table_row = line(in_table, t);
-        let document_row = line(in_document, d);
-        if own.len() == 0 {
-            return ended(at, n, table_row, document_row);
+        in_table = from_row(in_table, 0);
+        in_document = from_row(in_document, 2);
+        let own = line(rows);
+        let table_row = line(in_table);
+        let document_row = line(in_document);
+        if own.is_empty() {
+            return ended(own, n, table_row, document_row);
         }
         if !table::agrees(own, table_row) {
-            return Found::Table(at);
+            return Err(Differs::Table(own));
         }
         if !document::agrees(own, word(table_row, 2), document_row) {
-            return Found::Document(at);
+            return Err(Differs::Document(own));
         }
-        at = next_line(rows, at);
-        t = next_line(in_table, t);
-        d = next_line(in_document, d);
+        rows = next_lines(rows);
+        in_table = next_lines(in_table);
+        in_document = next_lines(in_document);
     }
-    Found::Table(at)
+    Err(Differs::Table(line(rows)))
 }

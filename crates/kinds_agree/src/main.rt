@@ -9,7 +9,7 @@ mod table;
 mod text;
 mod words;
 
-use compare::Found;
+use compare::Differs;
 use std::fs::File;
 use std::io;
 use std::rt::Files;
@@ -31,7 +31,7 @@ fn load<R: Files<File = File> + Alloc>(
 }
 
 fn differs(out: &impl Print, list: &str, row: &[u8]) -> io::Result<()> {
-    if row.len() == 0 {
+    if row.is_empty() {
         return println!(out; "{list} has a row too many");
     }
     print!(out; "{list} differs at ")?;
@@ -39,11 +39,11 @@ fn differs(out: &impl Print, list: &str, row: &[u8]) -> io::Result<()> {
     println!(out;)
 }
 
-fn say(out: &impl Print, found: Found, rows: &[u8]) -> io::Result<()> {
+fn say(out: &impl Print, found: Result<usize, Differs<'_>>) -> io::Result<()> {
     match found {
-        Found::Agree(n) => println!(out; "kinds {n}: table agrees, document agrees"),
-        Found::Table(at) => differs(out, "the table", text::line(rows, at)),
-        Found::Document(at) => differs(out, "the document", text::line(rows, at)),
+        Ok(n) => println!(out; "kinds {n}: table agrees, document agrees"),
+        Err(Differs::Table(row)) => differs(out, "the table", row),
+        Err(Differs::Document(row)) => differs(out, "the document", row),
     }
 }
 
@@ -55,5 +55,5 @@ fn main(rt: HostRuntime) -> io::Result<()> {
     let d = load(&rt, &err, b"KINDS.md", &mut document)?;
     let rows = rows::rows();
     let found = compare::compare(&rows, text::part(&table, 0, t), text::part(&document, 0, d));
-    say(&rt, found, &rows)
+    say(&rt, found)
 }

@@ -9,126 +9,108 @@ pub fn same(a: &[u8], b: &[u8]) -> bool
 }
 
 pub fn part(s: &[u8], from: usize, to: usize) -> &[u8] {
-    if from <= to {
-        if to <= s.len() {
-            return &s[from..to];
-        }
-    }
-    &s[..0]
+    s.get(from..to).unwrap_or(&[])
 }
 
-// The first place from `from` on that holds b, or the length.
-pub fn find(s: &[u8], from: usize, b: u8) -> usize {
-    for i in from..s.len() {
-        if s[i] == b {
-            return i;
-        }
-    }
-    s.len()
+// What stands from a place on.
+fn rest(s: &[u8], from: usize) -> &[u8] {
+    s.get(from..).unwrap_or(&[])
 }
 
-// The first place from `from` on that holds no space, or the length.
-fn skip(s: &[u8], from: usize) -> usize {
-    for i in from..s.len() {
-        if s[i] != b' ' {
-            return i;
-        }
-    }
-    s.len()
+// Where b stands first.
+fn find(s: &[u8], b: u8) -> Option<usize> {
+    s.iter().position(|x| *x == b)
 }
 
-// The last place before `to` that holds b, or 0.
-fn back(s: &[u8], to: usize, b: u8) -> usize {
-    for i in (0..to).rev() {
-        if i < s.len() {
-            if s[i] == b {
-                return i;
-            }
-        }
-    }
-    0
+// Where b stands last.
+fn find_last(s: &[u8], b: u8) -> Option<usize> {
+    s.iter().rposition(|x| *x == b)
 }
 
-// The first bar from `from` on that no backslash stands before, or the length.
-fn bar(s: &[u8], from: usize) -> usize {
+// The first bar that no backslash stands before. A loop, no `position`: each byte says whether it escapes the next.
+fn bar(s: &[u8]) -> Option<usize> {
     let mut escaped = false;
-    for i in from..s.len() {
-        let b = s[i];
-        if b == b'|' {
-            if !escaped {
-                return i;
-            }
+    for (i, b) in s.iter().enumerate() {
+        if *b == b'|' && !escaped {
+            return Some(i);
         }
-        escaped = b == b'\\';
+        escaped = *b == b'\\';
     }
-    s.len()
+    None
 }
 
-// One past a place, and never past the length.
-fn after(s: &[u8], i: usize) -> usize {
-    if i < s.len() { i + 1 } else { s.len() }
+// What stands before a place that was looked for, or all.
+fn before(s: &[u8], place: Option<usize>) -> &[u8] {
+    place.map_or(s, |i| part(s, 0, i))
 }
 
-pub fn line(s: &[u8], at: usize) -> &[u8] {
-    part(s, at, find(s, at, b'\n'))
+// What stands behind a place that was looked for.
+fn behind(s: &[u8], place: Option<usize>) -> &[u8] {
+    place.map_or(&[], |i| rest(s, i.saturating_add(1)))
 }
 
-pub fn next_line(s: &[u8], at: usize) -> usize {
-    after(s, find(s, at, b'\n'))
+// The first line.
+pub fn line(s: &[u8]) -> &[u8] {
+    before(s, find(s, b'\n'))
+}
+
+// The lines behind the first.
+pub fn next_lines(s: &[u8]) -> &[u8] {
+    behind(s, find(s, b'\n'))
+}
+
+// What stands from the first byte on that is no space.
+fn unspaced(s: &[u8]) -> &[u8] {
+    s.iter()
+        .position(|b| *b != b' ')
+        .map_or(&[], |i| rest(s, i))
 }
 
 // The word behind n others.
 pub fn word(s: &[u8], n: usize) -> &[u8] {
-    let mut at = 0;
+    let mut left = unspaced(s);
     for _ in 0..n {
-        at = find(s, skip(s, at), b' ');
+        left = unspaced(behind(left, find(left, b' ')));
     }
-    let from = skip(s, at);
-    part(s, from, find(s, from, b' '))
+    before(left, find(left, b' '))
 }
 
 // The one word that stands there; with more than one, all of it.
 pub fn only(s: &[u8]) -> &[u8] {
-    if word(s, 1).len() == 0 {
-        return word(s, 0);
-    }
-    s
+    if word(s, 1).is_empty() { word(s, 0) } else { s }
 }
 
 // What stands behind n bars, up to the next.
 pub fn cell(s: &[u8], n: usize) -> &[u8] {
-    let mut at = 0;
+    let mut left = s;
     for _ in 0..n {
-        at = after(s, bar(s, at));
+        left = behind(left, bar(left));
     }
-    part(s, at, bar(s, at))
+    before(left, bar(left))
 }
 
-// The last that stands between two backquotes.
+// The last that stands between two backquotes; before one alone, what stands behind the first byte.
 pub fn last_code(s: &[u8]) -> &[u8] {
-    let to = back(s, s.len(), b'`');
-    part(s, after(s, back(s, to, b'`')), to)
+    let Some(to) = find_last(s, b'`') else {
+        return &[];
+    };
+    let from = find_last(part(s, 0, to), b'`').unwrap_or(0);
+    part(s, from.saturating_add(1), to)
 }
 
-// A digit's value, 16 for what is no digit.
-pub fn digit(b: u8) -> u8 {
+// A digit's value.
+pub fn digit(b: u8) -> Option<u8> {
     match b {
-        0x30..=0x39 => b - 0x30,
-        0x41..=0x46 => b - 0x37,
-        _ => 16,
+        0x30..=0x39 => Some(b - 0x30),
+        0x41..=0x46 => Some(b - 0x37),
+        _ => None,
     }
 }
 
 // The number that two digits at the start make.
-pub fn number(s: &[u8]) -> u8 {
-    if 2 <= s.len() {
-        let high = digit(s[0]);
-        let low = digit(s[1]);
-        if high < 16 {
-            if low < 16 {
-                return high * 16 + low;
-            }
-        }
-    }
-    0xFF
+pub fn number(s: &[u8]) -> Option<u8> {
+    let [high, low, ..] = s else {
+        return None;
+    };
+    digit(*high)?.checked_mul(16)?.checked_add(digit(*low)?)
 }

@@ -8,14 +8,15 @@ pub fn is_class(word: &[u8], class: Class) -> bool {
         Class::Const => same(word, b"Const"),
         Class::Local => same(word, b"Local"),
         Class::Other => same(word, b"Other"),
-        Class::None => word.len() == 0,
+        Class::None => word.is_empty(),
     }
 }
 
 // The name where it is wanted, nothing where it is not.
 pub fn there(word: &[u8], name: &[u8], wanted: bool) -> bool {
     if wanted {
-        return same(word, name);
+        same(word, name)
+    } else {
+        word.is_empty()
     }
-    word.len() == 0
 }

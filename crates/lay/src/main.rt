@@ -8,7 +8,6 @@
 
 use entry::state::fresh;
 use format::runs::lay_out;
-use meaning::answer::Answer;
 use std::io;
 use telling::files::{count, read};
 use telling::refusal;
@@ -21,11 +20,11 @@ fn lay(out: &impl Print, err: &impl Print, source: &[u8], tree: &[u8]) -> io::Re
     let step = lay_out(source, tree, text, fresh());
     let answer = step.answer;
     match answer {
-        Answer::Done => {
+        Ok(()) => {
             let left = step.state;
             out.write_all(packed::front(text, left.now.len))
         }
-        Answer::Refused(r) => refusal::say(err, source, tree, r),
+        Err(r) => refusal::say(err, source, tree, r),
     }
 }
 
@@ -38,15 +37,15 @@ fn main(rt: HostRuntime) -> io::Result<()> {
     let mut list = [0u8; 131072];
     let s = read(&rt, &err, 1, &mut script)?;
     let t = read(&rt, &err, 2, &mut list)?;
-    if 131072 <= t.len {
+    if t.is_some_and(|len| 131072 <= len) {
         return println!(err; "the tree is longer than any good one");
     }
-    if s.found && t.found {
+    if let (Some(s), Some(t)) = (s, t) {
         lay(
             &rt,
             &err,
-            packed::front(&script, s.len),
-            packed::front(&list, t.len),
+            packed::front(&script, s),
+            packed::front(&list, t),
         )?;
     }
     Ok(())

@@ -3,5 +3,4 @@ pub mod TabLaws
 pub mod RingLaws
 pub mod StopLaws
 pub mod SlotLaws
-pub mod WordLaws
 pub mod MadeLaws

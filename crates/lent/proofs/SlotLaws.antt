@@ -32,29 +32,22 @@ over (w ∷ ws) zs (suc n) c e =
     let d : suc n + 3 ≡ suc (n + 3) = omega arith in
     rw (a, b, d) (ap (w ∷◌) (over ws zs n c (omega arith)))
 
-abbrev filled : List ℕ → ℕ → ℕ → List ℕ
+-- i comments from slot 0 on, and zero behind them
+abbrev pub filled : List ℕ → ℕ → ℕ → List ℕ
 filled q h i = slot_words (queue_of q h i) ++ replicate (1024 - i * 4) 0
 
-pub record Filling (q : List ℕ) (h n i : ℕ) (to : List ℕ) : Type 0 where
-  pub some : i ≤ n
-  pub same : to ≡ filled q h i
-
-pub fill_start : {q : List ℕ} {h n : ℕ} → Filling q h n 0 (replicate 1024 0)
+pub fill_start : (q : List ℕ) (h : ℕ) → replicate 1024 0 ≡ filled q h 0
 unfolding slot_words tab
-fill_start = record { some = omega arith; same = refl }
+fill_start q h = refl
 
-pub fill_turn : {q : List ℕ} {h n i p : ℕ} {c : Comment} {to to' : List ℕ} → i < n → n ≤ 256 → p ≡ i * 4 → c ≡ ring_at q (h + i) → to' ≡ stored to p c → Filling q h n i to → Filling q h n (i + 1) to'
-fill_turn {q} {h} {n} {i} {p} {c} {to} {to'} l few ep ec et f =
+pub fill_turn : (q : List ℕ) (h i : ℕ) {p : ℕ} {c : Comment} {to to' : List ℕ} → i < 256 → p ≡ i * 4 → c ≡ ring_at q (h + i) → to' ≡ stored to p c → to ≡ filled q h i → to' ≡ filled q h (i + 1)
+fill_turn q h i {p} {c} few ep ec et f =
     let z : 1024 - i * 4 ≡ suc (suc (suc (suc (1024 - (i + 1) * 4)))) = omega arith in
     let w : length (slot_words (queue_of q h i)) ≡ i * 4 = words_length (queue_of q h i) ∙ ap (◌* 4) (length_tab (ring_at q) h i) in
-    record {
-      some = omega arith;
-      same =
-          et
-          ∙ rw (ep, f.same, z) (over (slot_words (queue_of q h i)) (replicate (1024 - (i + 1) * 4) 0) (i * 4) c w)
-          ∙ sym (append_assoc (slot_words (queue_of q h i)) (slot_words (c ∷ [])) (replicate (1024 - (i + 1) * 4) 0))
-          ∙ ap (◌++ replicate (1024 - (i + 1) * 4) 0) (sym (words_append (queue_of q h i) (c ∷ [])) ∙ ap slot_words (ap (λ (d : Comment). queue_of q h i ++ (d ∷ [])) ec ∙ sym (tab_snoc (ring_at q) h i)));
-    }
+    et
+    ∙ rw (ep, f, z) (over (slot_words (queue_of q h i)) (replicate (1024 - (i + 1) * 4) 0) (i * 4) c w)
+    ∙ sym (append_assoc (slot_words (queue_of q h i)) (slot_words (c ∷ [])) (replicate (1024 - (i + 1) * 4) 0))
+    ∙ ap (◌++ replicate (1024 - (i + 1) * 4) 0) (sym (words_append (queue_of q h i) (c ∷ [])) ∙ ap slot_words (ap (λ (d : Comment). queue_of q h i ++ (d ∷ [])) ec ∙ sym (tab_snoc (ring_at q) h i)))
 
 take_queue : (q : List ℕ) (h count : ℕ) → take 256 (queue_of q h count) ≡ queue_of q h (min count 256)
 take_queue q h count = go (leb count 256) refl
@@ -69,9 +62,8 @@ take_queue q h count = go (leb count 256) refl
         let m : min count 256 ≡ 256 = min-eq_right (omega arith) in
         rw m (take_tab (ring_at q) h count 256 (omega arith))
 
-pub fill_end : {q : List ℕ} {h n i : ℕ} (count : ℕ) {to : List ℕ} → n ≡ min count 256 → n ≤ i → Filling q h n i to → to ≡ slots_of (queue_of q h count)
+pub fill_end : (q : List ℕ) (h count : ℕ) {to : List ℕ} → to ≡ filled q h (min count 256) → to ≡ slots_of (queue_of q h count)
 unfolding slots_of
-fill_end {q} {h} {n} {i} count en l f =
-    let e : i ≡ min count 256 = omega (arith, f.some, en) in
-    let k : length (queue_of q h i) ≡ i = length_tab (ring_at q) h i in
-    f.same ∙ rw (take_queue q h count, ← e, k)
+fill_end q h count f =
+    let k : length (queue_of q h (min count 256)) ≡ min count 256 = length_tab (ring_at q) h (min count 256) in
+    f ∙ rw (take_queue q h count, k)

@@ -1,81 +1,63 @@
--- The engine's scalars as one value, as its lent words read, and its changes, each of a part of it. Assumes nothing.
-use Rattle.std.specs.Prelude.{ℕ, ◌+◌, ◌-◌, ◌%◌, Bool, true, false, not, cond, ◌&&◌, List, length, leb, ltb}
+-- The changes of the engine's scalars, each of a part of them, and what refusals 10 and 11 leave. Assumes nothing.
+use Rattle.std.specs.Prelude.{◌≡◌, ℕ, ◌+◌, ◌-◌, ◌%◌, Bool, true, false, not, cond, ◌&&◌, List, length, leb, ltb, Ok, Err}
 use Rattle.tree.specs.declared.record.Record.{Record}
 use Rattle.tree.specs.declared.record.RecordNo.{RecordNo}
 use Rattle.meaning.specs.declared.answer.Refusal.TheVariants.{Finished, NoNode}
-use Rattle.meaning.specs.declared.answer.Answer.{Answer}
-use Rattle.meaning.specs.declared.answer.Answer.TheVariants.{Done, Refused}
-
--- the queue's words stand beside it: `count` comments from slot `head` on
-pub record Run : Type 0 where
-  pub answer : Answer
-  pub len : ℕ
-  pub head : ℕ
-  pub count : ℕ
-  pub lines : ℕ
-  pub use_lines : Bool
-  pub ws : Bool
-  pub indent : ℕ
-  pub finished : Bool
+use Rattle.meaning.specs.Answer.{Answer}
+use Rattle.lent.specs.declared.formatter.Formatter.{Formatter}
 
 abbrev pub is_refused : Answer → Bool
-is_refused Done = false
-is_refused (Refused r) = true
+is_refused (Ok tt) = false
+is_refused (Err r) = true
 
-abbrev pub answered : Run → Answer → Run
-answered r a =
-    record { answer = a; len = r.len; head = r.head; count = r.count; lines = r.lines; use_lines = r.use_lines; ws = r.ws; indent = r.indent; finished = r.finished }
+abbrev pub answered : Formatter → Answer → Formatter
+answered r a = record r { answer = a }
 
-abbrev pub moved_run : Run → ℕ → Run
-moved_run r n =
-    record { answer = r.answer; len = n; head = r.head; count = r.count; lines = r.lines; use_lines = r.use_lines; ws = r.ws; indent = r.indent; finished = r.finished }
+abbrev pub moved_run : Formatter → ℕ → Formatter
+moved_run r n = record r { len = n }
 
-abbrev pub hinted_run : Run → ℕ → Bool → Bool → Run
-hinted_run r lines use_lines ws =
-    record { answer = r.answer; len = r.len; head = r.head; count = r.count; lines = lines; use_lines = use_lines; ws = ws; indent = r.indent; finished = r.finished }
+abbrev pub hinted_run : Formatter → ℕ → Bool → Bool → Formatter
+hinted_run r lines use_lines ws = record r { lines = lines; use_lines = use_lines; ws = ws }
 
-abbrev pub ws_run : Run → Bool → Run
-ws_run r ws = hinted_run r r.lines r.use_lines ws
-
-abbrev pub use_lines_run : Run → Bool → Run
-use_lines_run r use_lines = hinted_run r r.lines use_lines r.ws
-
-abbrev pub indented_run : Run → ℕ → Run
-indented_run r n =
-    record { answer = r.answer; len = r.len; head = r.head; count = r.count; lines = r.lines; use_lines = r.use_lines; ws = r.ws; indent = n; finished = r.finished }
-
-abbrev pub closed_run : Run → Run
-closed_run r =
-    record { answer = r.answer; len = r.len; head = r.head; count = r.count; lines = r.lines; use_lines = r.use_lines; ws = r.ws; indent = r.indent; finished = true }
+abbrev pub indented_run : Formatter → ℕ → Formatter
+indented_run r n = record r { indent = n }
 
 -- the first n comments gone, and the output so long
-abbrev pub let_out_run : Run → ℕ → ℕ → Run
-let_out_run r n len =
-    record { answer = r.answer; len = len; head = (r.head + n) % 256; count = r.count - n; lines = r.lines; use_lines = r.use_lines; ws = r.ws; indent = r.indent; finished = r.finished }
+abbrev pub let_out_run : Formatter → ℕ → ℕ → Formatter
+let_out_run r n len = record r { len = len; head = (r.head + n) % 256; count = r.count - n }
 
-abbrev pub collected_run : Run → ℕ → ℕ → Run
-collected_run r lines count =
-    record { answer = r.answer; len = r.len; head = r.head; count = count; lines = lines; use_lines = r.use_lines; ws = r.ws; indent = r.indent; finished = r.finished }
+abbrev pub collected_run : Formatter → ℕ → ℕ → Formatter
+collected_run r lines count = record r { count = count; lines = lines }
 
 -- the hints behind a flush
-unfoldable pub flushed_run : Bool → Run → Run
+unfoldable pub flushed_run : Bool → Formatter → Formatter
 flushed_run preserve r =
     let keep = preserve && not (r.use_lines && ltb 0 r.lines) in
     hinted_run r (cond keep r.lines 0) (keep && r.use_lines) false
 
 -- refusal 10, then 11
 abbrev pub ready_answer : Answer → Bool → ℕ → Answer
-ready_answer (Refused e) finished len = Refused e
-ready_answer Done true len = Refused (Finished len)
-ready_answer Done false len = Done
+ready_answer (Err e) finished len = Err e
+ready_answer (Ok tt) true len = Err (Finished len)
+ready_answer (Ok tt) false len = Ok tt
 
-unfoldable pub ready_run : Run → Run
+unfoldable pub ready_run : Formatter → Formatter
 ready_run r = answered r (ready_answer r.answer r.finished r.len)
 
 abbrev pub present_answer : Answer → Bool → RecordNo → Answer
-present_answer (Refused e) missing k = Refused e
-present_answer Done true k = Refused (NoNode k)
-present_answer Done false k = Done
+present_answer (Err e) missing k = Err e
+present_answer (Ok tt) true k = Err (NoNode k)
+present_answer (Ok tt) false k = Ok tt
 
-unfoldable pub present_run : List Record → RecordNo → Run → Run
+unfoldable pub present_run : List Record → RecordNo → Formatter → Formatter
 present_run tree k r = answered r (present_answer r.answer (leb (length tree) k.0) k)
+
+-- refusal 10 is asked, and the answer is whether the call is to stop
+pub record Readied (run go : Formatter) (stop : Bool) : Type 0 where
+  pub is : go ≡ ready_run run
+  pub told : stop ≡ is_refused go.answer
+
+-- refusal 11 too
+pub record Present (tree : List Record) (k : RecordNo) (run go : Formatter) (stop : Bool) : Type 0 where
+  pub is : go ≡ present_run tree k (ready_run run)
+  pub told : stop ≡ is_refused go.answer

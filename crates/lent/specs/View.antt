@@ -1,4 +1,4 @@
--- How the code's words read as the engine's state. Assumes nothing.
+-- How the formatter and the ring's words read as the engine's state. Assumes nothing.
 use Rattle.std.specs.Prelude.{◌≡◌, ℕ, zero, suc, ◌+◌, ◌-◌, ◌*◌, ◌%◌, Bool, cond, List, [], ◌∷◌, ◌++◌, length, set, take, get_or, replicate, eqb}
 use Rattle.std.proofs.lemmas.List.Edits.{sets}
 use Rattle.tree.specs.Records.{span_of}
@@ -8,7 +8,7 @@ use Rattle.meaning.specs.Pieces.{newline, space}
 use Rattle.meaning.specs.World.{world, Result, result}
 use Rattle.lent.specs.declared.ring.Comment as ring
 use Rattle.lent.specs.declared.room.Gap.{Gap}
-use Rattle.lent.specs.Run.{Run}
+use Rattle.lent.specs.declared.formatter.Formatter.{Formatter}
 
 -- f at i, i + 1, .., n of them
 unfoldable pub tab : {A : Type 0} → (ℕ → A) → ℕ → ℕ → List A
@@ -51,11 +51,11 @@ slots_of cs = let kept = take 256 cs in slot_words kept ++ replicate (1024 - len
 
 -- ---- the state, and what is left of engine and buffer
 
-abbrev pub view : Run → List ℕ → State
+abbrev pub view : Formatter → List ℕ → State
 view r q =
     record { len = r.len; queue = queue_of q r.head r.count; lines = r.lines; use_lines = r.use_lines; ws = r.ws; indent = r.indent; finished = r.finished }
 
-abbrev pub result_of : Run → List ℕ → List ℕ → Result
+abbrev pub result_of : Formatter → List ℕ → List ℕ → Result
 result_of r q b = result r.answer (world (view r q) b)
 
 abbrev pub script_of : List ℕ → List ℕ → Script

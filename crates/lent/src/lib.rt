@@ -1,4 +1,4 @@
-// What is lent of the engine: its words, the ring of waiting comments, room in the buffer, and the texts that calls write.
+// What is lent of the engine: its scalars, the ring of waiting comments, room in the buffer, and the texts that calls write.
 #![tactic(auto)]
 
 pub mod formatter;

@@ -1,10 +1,10 @@
 // The queue of waiting comments: a ring of 256 slots, four words each (start, end, `before`, 1 for a line comment).
-ghost use Rattle.std.specs.Prelude.{◌≡◌, ◌∷◌, [], ◌++◌, ◌+◌, ◌<◌, ◌≤◌, min, length};
-ghost use Rattle.lent.specs.View.{slot_of, flag_of, ring_at, queue_of, as_comment, stored, slots_of};
+ghost use Rattle.std.specs.Prelude.{◌≡◌, ◌∷◌, [], ◌++◌, ◌+◌, ◌<◌, min};
+ghost use Rattle.lent.specs.View.{slot_of, ring_at, queue_of, as_comment, stored, slots_of};
 
 use text::span::{BytePos, Span};
 
-// Lent beside the engine's words.
+// Lent beside the formatter. Words and not comments: `slots_of` says the state that a caller keeps in them.
 pub type Queue = [u32; 1024];
 
 // A comment as it waits.
@@ -15,24 +15,11 @@ pub struct Comment {
     pub line: bool,
 }
 
-// The proof learns from this loan how many words the ring has.
-fn sized(words: &[u32]) -> usize
-    ensures { length words.now ≡ result }
-{
-    words.len()
-}
-
 // The first word of a slot; slots count on from 255 to 0.
 fn slot(head: u32, i: u32) -> usize
     ensures { result ≡ slot_of (head + i) }
 {
     ((head as usize) + (i as usize)) % 256 * 4
-}
-
-fn flag(line: bool) -> u32
-    ensures { result ≡ flag_of line }
-{
-    if line { 1 } else { 0 }
 }
 
 // The comment i places behind the head.
@@ -55,11 +42,10 @@ fn store(queue: &mut Queue, p: usize, c: Comment)
     requires { p < 1021 }
     ensures { queue.new ≡ stored queue.old p (as_comment c) }
 {
-    sized(queue);
     queue[p] = c.span.start.0;
     queue[p + 1] = c.span.end.0;
     queue[p + 2] = c.before;
-    queue[p + 3] = flag(c.line);
+    queue[p + 3] = c.line as u32;
 }
 
 // One comment more, behind the last.
@@ -67,27 +53,17 @@ pub fn push(queue: &mut Queue, head: u32, count: u32, c: Comment)
     requires { count < 256 }
     ensures { queue_of queue.new head (count + 1) ≡ queue_of queue.old head count ++ (as_comment c ∷ []) }
 {
-    sized(queue);
     store(queue, slot(head, count), c);
-}
-
-fn at_most(count: u32) -> u32
-    ensures { (result ≡ min count 256) × (result ≤ 256) }
-{
-    if count < 256 { count } else { 256 }
 }
 
 // The queue anew, from slot 0 on, and zero behind it.
 pub fn tidy(queue: &Queue, head: u32, count: u32) -> [u32; 1024]
     ensures { result ≡ slots_of (queue_of queue.now head count) }
 {
-    let n = at_most(count);
     let mut to = [0u32; 1024];
-    let mut i: u32 = 0;
-    while i < n {
+    for i in 0..count.min(256) {
         let c = comment_at(queue, head, i);
         store(&mut to, (i as usize) * 4, c);
-        i += 1;
     }
     to
 }

@@ -1,7 +1,7 @@
 // The lent buffer: is there room, and the writing itself. Only `fill`, `copy` and `lay` ask for room; their callers have tested it.
-ghost use Rattle.std.specs.Prelude.{◌≡◌, false, ◌∷◌, [], ◌+◌, ◌≤◌, length, replicate, ltb};
+ghost use Rattle.std.specs.Prelude.{◌≡◌, false, ◌+◌, ◌≤◌, length, replicate, ltb};
 ghost use Rattle.std.proofs.lemmas.List.Edits.{sets};
-ghost use Rattle.meaning.specs.Pieces.{space, breaks};
+ghost use Rattle.meaning.specs.Pieces.{breaks};
 ghost use Rattle.lent.specs.View.{gap_bytes, Laid};
 
 // White space in front of a text: newlines, then spaces.
@@ -11,36 +11,26 @@ pub struct Gap {
     pub spaces: usize,
 }
 
-pub fn no_gap() -> Gap
-    ensures { gap_bytes result ≡ [] }
-{
-    Gap {
+impl Gap {
+    pub const NONE: Gap = Gap {
         lines: 0,
         spaces: 0,
-    }
-}
+    };
 
-pub fn one_space() -> Gap
-    ensures { gap_bytes result ≡ space ∷ [] }
-{
-    Gap {
+    pub const SPACE: Gap = Gap {
         lines: 0,
         spaces: 1,
-    }
+    };
 }
 
 // min(n, 2) newlines and the indent of the line behind them.
+#[tactic(auto, unfolding(meaning::specs::Pieces::breaks))]
 pub fn line_break(indent: u8, n: u32) -> Gap
     ensures { gap_bytes result ≡ breaks indent n }
 {
     let spaces = (indent as usize) * 4;
-    if n < 2 {
-        return Gap {
-            lines: n as usize,
-            spaces,
-        };
-    }
-    Gap { lines: 2, spaces }
+    let lines = n.min(2) as usize;
+    Gap { lines, spaces }
 }
 
 // Would a gap and n bytes behind it, from place `at` on, pass a buffer of `cap` bytes?
@@ -55,10 +45,7 @@ pub fn passes(cap: usize, at: usize, gap: Gap, n: usize) -> bool
         return true;
     }
     let rest = left - gap.lines;
-    if rest < gap.spaces {
-        return true;
-    }
-    if rest - gap.spaces < n { true } else { false }
+    rest < gap.spaces || rest - gap.spaces < n
 }
 
 pub fn fill(out: &mut [u8], at: usize, n: usize, b: u8)
@@ -70,23 +57,14 @@ pub fn fill(out: &mut [u8], at: usize, n: usize, b: u8)
         out[at] = b;
         return;
     }
-    let end = at + n;
-    let mut i = at;
-    while i < end {
-        out[i] = b;
-        i += 1;
-    }
+    out[at..at + n].fill(b);
 }
 
 fn copy(out: &mut [u8], at: usize, t: &[u8])
     requires { at + length t.now ≤ length out.old }
     ensures { out.new ≡ sets out.old at t.now }
 {
-    let mut i = 0;
-    while i < t.len() {
-        out[at + i] = t[i];
-        i += 1;
-    }
+    out[at..at + t.len()].copy_from_slice(t);
 }
 
 // A gap, and the text behind it: where it ends.

@@ -13,9 +13,7 @@ pub enum Wording {
 }
 
 // All literals in a row, in the order of document 01's list.
-pub const LITERALS: [u8; 11] = [
-    0x7B, 0x7D, 0x7C, 0x7C, 0x28, 0x29, 0x7B, 0x7D, 0x2C, 0x3B, 0x3A,
-];
+pub const LITERALS: [u8; 11] = *b"{}||(){},;:";
 
 fn from_to(start: u32, end: u32) -> Span
     ensures { result ≡ span_of start end }
@@ -26,7 +24,7 @@ fn from_to(start: u32, end: u32) -> Span
     }
 }
 
-// Where a literal stands in the list.
+// Where a literal stands in the list. No `From<Literal> for Span`: both types are of crates below, and the place is one in this list alone.
 fn lit_span(l: Literal) -> Span
     ensures { result ≡ lit_span l }
 {

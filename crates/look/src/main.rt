@@ -3,18 +3,11 @@
 //     look SCRIPT TREE
 #![tactic(auto)]
 
-use opening::open::Opening;
+use opening::open::Unopened;
+use packed::front;
 use std::io;
 use telling::files::{count, read};
-use text::span::BytePos;
 use tree::record::RecordNo;
-
-fn front(s: &[u8], n: usize) -> &[u8] {
-    if s.len() <= n {
-        return s;
-    }
-    &s[0..n]
-}
 
 fn good(out: &impl Print, source: &[u8], n: RecordNo) -> io::Result<()> {
     let bytes = source.len();
@@ -25,27 +18,27 @@ fn good(out: &impl Print, source: &[u8], n: RecordNo) -> io::Result<()> {
     println!(out; "{newlines} newlines; {records} records")
 }
 
-fn at_byte(out: &impl Print, why: &str, p: BytePos) -> io::Result<()> {
-    let at = p.0;
-    println!(out; "{why} at byte {at}")
-}
-
-fn at_record(out: &impl Print, why: &str, k: RecordNo) -> io::Result<()> {
-    let at = k.0;
-    println!(out; "{why} at record {at}")
-}
-
-fn report(out: &impl Print, source: &[u8], o: Opening) -> io::Result<()> {
+fn report(out: &impl Print, source: &[u8], o: Result<RecordNo, Unopened>) -> io::Result<()> {
     match o {
-        Opening::Good(n) => good(out, source, n),
-        Opening::SourceLong => at_byte(
-            out,
-            "refusal 1, the script is over 65,536 bytes,",
-            BytePos(65536),
-        ),
-        Opening::SourceIll(p) => at_byte(out, "refusal 2, the script is not well-formed UTF-8", p),
-        Opening::TreeBad(k) => at_record(out, "refusal 3, the tree is not good", k),
-        Opening::TreeDeep(k) => at_record(out, "refusal 7, the tree is deeper than 64 levels", k),
+        Ok(n) => good(out, source, n),
+        Err(Unopened::SourceLong) => {
+            println!(out; "refusal 1, the script is over 65,536 bytes, at byte 65536")
+        }
+        Err(Unopened::SourceIll(p)) => {
+            println!(out;
+                "refusal 2, the script is not well-formed UTF-8 at byte {}",
+                p.0
+            )
+        }
+        Err(Unopened::TreeBad(k)) => {
+            println!(out; "refusal 3, the tree is not good at record {}", k.0)
+        }
+        Err(Unopened::TreeDeep(k)) => {
+            println!(out;
+                "refusal 7, the tree is deeper than 64 levels at record {}",
+                k.0
+            )
+        }
     }
 }
 
@@ -58,16 +51,12 @@ fn main(rt: HostRuntime) -> io::Result<()> {
     let err = rt.stderr();
     let s = read(&rt, &err, 1, &mut script)?;
     let t = read(&rt, &err, 2, &mut list)?;
-    if 131072 <= t.len {
+    if t.is_some_and(|len| 131072 <= len) {
         return println!(rt; "the tree is longer than this program reads");
     }
-    if s.found && t.found {
-        let source = front(&script, s.len);
-        report(
-            &rt,
-            source,
-            opening::open::open(source, front(&list, t.len)),
-        )?;
+    if let (Some(s), Some(t)) = (s, t) {
+        let source = front(&script, s);
+        report(&rt, source, opening::open::open(source, front(&list, t)))?;
     }
     Ok(())
 }

@@ -1,5 +1,6 @@
 -- Laws of where a chain breaks: the records behind its head one by one, as the loops go over them. Assumes nothing.
 use Rattle.text.proofs.Base.{◌≡◌, refl, ◌∙◌, ◌⊎◌, inl, inr, Bool, true, false, List, ◌∷◌, ℕ, zero, suc, ◌≤◌, ◌<◌, ◌+◌, ◌-◌, length, eq-eqb, ne_eqb, arith}
+use Rattle.std.specs.Prelude.{Option, Some, None, MatchOption}
 use native.Mathlib.Numerals.{add-one}
 use Rattle.text.specs.declared.span.Span.{Span}
 use Rattle.text.specs.Span.{joined}
@@ -13,8 +14,7 @@ use Rattle.tree.proofs.Laws.{found_is, found_not, shown_past}
 use Rattle.kinds.specs.declared.Kind.{Kind}
 use Rattle.kinds.specs.Facts.{byte_of}
 use Rattle.meaning.specs.State.{Script}
-use Rattle.loose.specs.declared.chain.Tail.{Tail}
-use Rattle.loose.specs.declared.chain.Tail.TheVariants.{Call, Absent}
+use Rattle.loose.specs.declared.chain.Call.{Call}
 use Rattle.loose.specs.Chain.{is_dot, behind_head, tail_in, dot_behind, head_of, first_in, breaks_at, chain_from}
 use Rattle.loose.proofs.ReasonLaws.{first_left, goes_behind}
 
@@ -30,7 +30,7 @@ pub call_starts : {rs : List Record} {start end : ℕ} → end ≤ length rs →
 call_starts h = record { inside = h; few = omega arith; same = refl }
 
 module _ {rs : List Record} {start end at n : ℕ} (g : Calling rs start end at n) where
-  pub call_none : end ≤ at → Absent ≡ tail_in rs 1 (shown rs (cursor_of start end))
+  pub call_none : end ≤ at → None ≡ tail_in rs 1 (shown rs (cursor_of start end))
   unfolding tail_in
   call_none h = rw (shown_past rs (cursor_of at end) h) at g.same
 
@@ -38,7 +38,7 @@ module _ {rs : List Record} {start end at n : ℕ} (g : Calling rs start end at 
     call_here : tail_in rs n (at ∷ shown rs (cursor_of (behind rs at) end)) ≡ tail_in rs 1 (shown rs (cursor_of start end))
     call_here = rw (first_left rs g.inside h) at g.same
 
-    pub call_found : kind ≡ byte_of Kind.ExprCall → Call n (record { 0 = at }) ≡ tail_in rs 1 (shown rs (cursor_of start end))
+    pub call_found : kind ≡ byte_of Kind.ExprCall → Some (record { nth = n; at = record { 0 = at } }) ≡ tail_in rs 1 (shown rs (cursor_of start end))
     unfolding tail_in call_here
     call_found e = rw (← q, eq-eqb _ _ e) at call_here
 
@@ -70,10 +70,10 @@ module _ {rs : List Record} {start end all at n : ℕ} (g : Dotting rs start end
     dot_found z q p e = rw (z, ← q, ← p, e) at dot_here
 
     -- one of the first n, or none of the two kinds
-    pub dot_next : {to m : ℕ} → ((n ≡ 0) × (is_dot (node_of rs at).kind ≡ false) × (m ≡ n)) ⊎ ((n ≡ 0 → ⊥) × (m ≡ n - 1)) → to ≡ behind rs at → Dotting rs start end all to m
+    pub dot_next : {to m : ℕ} → ((n ≡ 0) × (is_dot (node_of rs at).kind ≡ false)) ⊎ (n ≡ 0 → ⊥) → m ≡ n - 1 → to ≡ behind rs at → Dotting rs start end all to m
     unfolding dot_behind dot_here
-    dot_next (inl z) b = rw (b, z.2) (record { inside = g.inside; same = rw z.0 (rw (z.0, z.1) at dot_here) })
-    dot_next (inr z) b = record { inside = g.inside; same = rw (b, z.1) (by n z.0 dot_here) }
+    dot_next (inl z) e b = let s : n - 1 ≡ n = omega (arith, z.0) in rw (b, e, s) (record { inside = g.inside; same = rw z.0 (rw (z.0, z.1) at dot_here) })
+    dot_next (inr d) e b = record { inside = g.inside; same = rw (b, e) (by n d dot_here) }
       where
         by : (n : ℕ) → (n ≡ 0 → ⊥) → dot_behind rs n (at ∷ shown rs (cursor_of (behind rs at) end)) ≡ dot_behind rs all (shown rs (cursor_of start end)) → dot_behind rs (n - 1) (shown rs (cursor_of (behind rs at) end)) ≡ dot_behind rs all (shown rs (cursor_of start end))
         by zero d y = absurd (d refl)
@@ -82,13 +82,18 @@ module _ {rs : List Record} {start end all at n : ℕ} (g : Dotting rs start end
 -- ---- the head's span
 
 module _ (rs : List Record) (head : RecordNo) {a : Record} (e : a ≡ node_of rs head.0) where
-  pub head_alone : {t : Tail} → Absent ≡ t → a.span ≡ head_of rs head t
+  pub head_alone : {t : Option Call} → None ≡ t → a.span ≡ head_of rs head t
   unfolding head_of
   head_alone h = rw (← h, e)
 
-  pub head_called : {t : Tail} {n : ℕ} {k : RecordNo} {b : Record} {s j : Span} → Call n k ≡ t → b ≡ node_of rs k.0 → s ≡ span.head_of b.span → j ≡ joined a.span s → j ≡ head_of rs head t
+  pub head_called : {t : Option Call} {c : Call} {b : Record} {s j : Span} → Some c ≡ t → b ≡ node_of rs c.at.0 → s ≡ span.head_of b.span → j ≡ joined a.span s → j ≡ head_of rs head t
   unfolding head_of
   head_called h f g i = i ∙ rw (← h, e, g, f)
+
+pub first_is : (t : Option Call) {n : ℕ} {P : Call → Type 0} → MatchOption t (n ≡ 1) P → ((c : Call) → P c → n ≡ c.nth) → n ≡ first_in t
+unfolding first_in
+first_is None h f = h
+first_is (Some c) h f = f c h
 
 -- ---- the whole question
 
@@ -105,7 +110,7 @@ pub chain_headless : (x : Script) (k head : RecordNo) → 8192 ≤ head.0 → 81
 unfolding chain_from
 chain_headless x k head h = rw (found_not {k = head} h)
 
-module _ (x : Script) (head : RecordNo) (ks : List ℕ) {c : Tail} (q : c ≡ tail_in x.tree 1 ks) {s : Span} (p : s ≡ head_of x.tree head c) {t : Bool} (e : t ≡ is_wide x.source s 80) where
+module _ (x : Script) (head : RecordNo) (ks : List ℕ) {c : Option Call} (q : c ≡ tail_in x.tree 1 ks) {s : Span} (p : s ≡ head_of x.tree head c) {t : Bool} (e : t ≡ is_wide x.source s 80) where
   pub breaks_wide : t ≡ true → 0 ≡ breaks_at x head ks
   unfolding breaks_at
   breaks_wide f = rw (← q, ← p, ← e, f)

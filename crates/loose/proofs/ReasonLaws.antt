@@ -1,5 +1,6 @@
 -- Laws of the reason why a list goes loose: the records one by one, as the loop goes over them. Assumes nothing.
 use Rattle.text.proofs.Base.{◌≡◌, refl, ◌⊎◌, inl, inr, Bool, true, false, List, ◌∷◌, ℕ, ◌≤◌, ◌<◌, ◌+◌, length, eq-eqb, ne_eqb, arith}
+use Rattle.std.specs.Prelude.{Option, Some, None}
 use native.Mathlib.Numerals.{add-one}
 use Rattle.text.specs.declared.span.BytePos.{BytePos}
 use Rattle.width.specs.Count.{is_wide, place_in}
@@ -12,7 +13,7 @@ use Rattle.kinds.specs.declared.Kind.{Kind}
 use Rattle.kinds.specs.Facts.{byte_of}
 use Rattle.meaning.specs.State.{Script}
 use Rattle.loose.specs.declared.reason.Reason.{Reason}
-use Rattle.loose.specs.declared.reason.Reason.TheVariants.{Wide, Comment, Sixth, Fits}
+use Rattle.loose.specs.declared.reason.Reason.TheVariants.{Wide, Comment, Sixth}
 use Rattle.loose.specs.Reason.{is_entry, crowd, children_from, reason}
 
 -- ---- a node's records one by one, as far as the record behind them
@@ -41,7 +42,7 @@ pub crowd_starts : {rs : List Record} {keys : Bool} {start end : ℕ} → end �
 crowd_starts h = record { inside = h; few = omega arith; same = refl }
 
 module _ {rs : List Record} {keys : Bool} {start end at n : ℕ} (g : Crowding rs keys start end at n) where
-  pub crowd_fits : end ≤ at → Fits ≡ crowd rs keys 0 (shown rs (cursor_of start end))
+  pub crowd_fits : end ≤ at → None ≡ crowd rs keys 0 (shown rs (cursor_of start end))
   unfolding crowd
   crowd_fits h = rw (shown_past rs (cursor_of at end) h) at g.same
 
@@ -49,12 +50,12 @@ module _ {rs : List Record} {keys : Bool} {start end at n : ℕ} (g : Crowding r
     here : crowd rs keys n (at ∷ shown rs (cursor_of (behind rs at) end)) ≡ crowd rs keys 0 (shown rs (cursor_of start end))
     here = rw (first_left rs g.inside h) at g.same
 
-    pub crowd_comment : kind ≡ byte_of Kind.Comment → Comment (record { 0 = at }) ≡ crowd rs keys 0 (shown rs (cursor_of start end))
+    pub crowd_comment : kind ≡ byte_of Kind.Comment → Some (Comment (record { 0 = at })) ≡ crowd rs keys 0 (shown rs (cursor_of start end))
     unfolding crowd here
     crowd_comment e = rw (← q, eq-eqb _ _ e) at here
 
     module _ (d : kind ≡ byte_of Kind.Comment → ⊥) {t : Bool} (p : t ≡ is_entry keys kind) where
-      pub crowd_sixth : t ≡ true → n ≡ 5 → Sixth (record { 0 = at }) ≡ crowd rs keys 0 (shown rs (cursor_of start end))
+      pub crowd_sixth : t ≡ true → n ≡ 5 → Some (Sixth (record { 0 = at })) ≡ crowd rs keys 0 (shown rs (cursor_of start end))
       unfolding crowd here
       crowd_sixth e f = rw (← q, ne_eqb _ _ d, ← p, e, f) at here
 
@@ -67,10 +68,10 @@ module _ {rs : List Record} {keys : Bool} {start end at n : ℕ} (g : Crowding r
 -- ---- the whole question
 
 module _ (x : Script) (keys : Bool) (k : RecordNo) (from : ℕ) {t : Bool} (e : t ≡ is_wide x.source (node_of x.tree k.0).span 80) where
-  pub too_wide : {p : BytePos} → t ≡ true → p ≡ place_in x.source (node_of x.tree k.0).span 80 → Wide p ≡ reason x keys k from
+  pub too_wide : {p : BytePos} → t ≡ true → p ≡ place_in x.source (node_of x.tree k.0).span 80 → Some (Wide p) ≡ reason x keys k from
   unfolding reason
   too_wide h q = rw (← e, h, q)
 
-  pub by_crowd : {r : Reason} → t ≡ false → r ≡ crowd x.tree keys 0 (children_from x.tree k from) → r ≡ reason x keys k from
+  pub by_crowd : {r : Option Reason} → t ≡ false → r ≡ crowd x.tree keys 0 (children_from x.tree k from) → r ≡ reason x keys k from
   unfolding reason
   by_crowd h r = rw (← e, h) r

@@ -12,13 +12,12 @@ use tree::record::RecordNo;
 use tree::table::{kind_at, node};
 use width::place::place_in;
 
-// The node's span is too wide, by the character at this place; a line comment stands among its records; a sixth entry does; or none of these.
+// The node's span is too wide, by the character at this place; a line comment stands among its records; or a sixth entry does.
 #[derive(Clone, Copy)]
 pub enum Reason {
     Wide(BytePos),
     Comment(RecordNo),
     Sixth(RecordNo),
-    Fits,
 }
 
 // An entry that counts among the six: a key, or the Rust's Expr.
@@ -26,44 +25,49 @@ fn is_entry(kind: u8, keys: bool) -> bool
     ensures { result ≡ is_entry keys kind }
 {
     if keys {
-        return kind == bytes::OBJ_KEY;
+        kind == bytes::OBJ_KEY
+    } else {
+        kind == bytes::EXPR || kind == bytes::EXPR_SEMI
     }
-    if kind == bytes::EXPR {
-        return true;
-    }
-    kind == bytes::EXPR_SEMI
 }
 
 // Of the records of node k from one on: the first line comment or the sixth entry, whichever comes first.
-fn crowd(table: &[u32], k: RecordNo, from: RecordNo, keys: bool) -> Reason
+fn crowd(table: &[u32], k: RecordNo, from: RecordNo, keys: bool) -> Option<Reason>
     ensures { result ≡ crowd (tree_of table.now) keys 0 (children_from (tree_of table.now) k from.0) }
 {
-    let end = behind(table, k).0;
+    let end = behind(table, k);
     let mut entries: u32 = 0;
-    let mut at = from.0;
-    while at < end {
-        let kind = kind_at(table, RecordNo(at));
+    let mut at = from;
+    // no range: a step passes all records below one
+    while at.0 < end.0 {
+        let kind = kind_at(table, at);
         if kind == bytes::LINE_COMMENT {
-            return Reason::Comment(RecordNo(at));
+            return Some(Reason::Comment(at));
         }
         if is_entry(kind, keys) {
             if entries == 5 {
-                return Reason::Sixth(RecordNo(at));
+                return Some(Reason::Sixth(at));
             }
             entries += 1;
         }
-        at = behind(table, RecordNo(at)).0;
+        at = behind(table, at);
     }
-    Reason::Fits
+    None
 }
 
 // The span of node k first, then its records from one on.
-pub fn why_loose(src: &[u8], table: &[u32], k: RecordNo, from: RecordNo, keys: bool) -> Reason
+pub fn why_loose(
+    src: &[u8],
+    table: &[u32],
+    k: RecordNo,
+    from: RecordNo,
+    keys: bool,
+) -> Option<Reason>
     ensures { result ≡ reason (script src table) keys k from.0 }
 {
     let span = node(table, k).span;
     if is_wide(src, span, 80) {
-        return Reason::Wide(place_in(src, span, 80));
+        return Some(Reason::Wide(place_in(src, span, 80)));
     }
     crowd(table, k, from, keys)
 }
@@ -72,20 +76,5 @@ pub fn why_loose(src: &[u8], table: &[u32], k: RecordNo, from: RecordNo, keys: b
 pub fn goes_loose(src: &[u8], table: &[u32], k: RecordNo, from: RecordNo, keys: bool) -> bool
     ensures { result ≡ is_loose (reason (script src table) keys k from.0) }
 {
-    if is_wide(src, node(table, k).span, 80) {
-        return true;
-    }
-    is_loose(crowd(table, k, from, keys))
-}
-
-// Whether it is a reason at all.
-pub fn is_loose(why: Reason) -> bool
-    ensures { result ≡ is_loose why }
-{
-    match why {
-        Reason::Wide(_) => true,
-        Reason::Comment(_) => true,
-        Reason::Sixth(_) => true,
-        Reason::Fits => false,
-    }
+    is_wide(src, node(table, k).span, 80) || crowd(table, k, from, keys).is_some()
 }

@@ -16,9 +16,6 @@ fn width_of(src: &[u8], span: Span, limit: u32) -> u64
 pub fn is_wide(src: &[u8], span: Span, limit: u32) -> bool
     ensures { result ≡ is_wide src.now span limit }
 {
-    // so few bytes have no more characters, and are not counted
-    if part(src, span).len() <= limit as usize {
-        return false;
-    }
-    width_of(src, span, limit) == limit as u64 + 1
+    // as few bytes as the limit have no more characters, and are not counted
+    part(src, span).len() > limit as usize && width_of(src, span, limit) == limit as u64 + 1
 }

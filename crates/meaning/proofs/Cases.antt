@@ -1,4 +1,5 @@
 -- Worked cases of the definitions, computed by antt. Assumes nothing.
+use Rattle.std.specs.Prelude.{Ok, Err}
 use mathlib.Core.Path.{◌≡◌, refl}
 use mathlib.Core.Bool.{true, false}
 use mathlib.Core.List.{[], ◌∷◌, map}
@@ -17,7 +18,6 @@ use Rattle.meaning.specs.declared.call.Hint.TheVariants.{Line, Infix}
 use Rattle.meaning.specs.declared.call.Literal.TheVariants.{Braces, Colon}
 use Rattle.meaning.specs.declared.call.Call.TheVariants.{WriteOwned, WriteRaw, Ignore, Lit, Comments, Indent, Nl, Ws, FlushWhitespace, FlushPrefixComments, Finish}
 use Rattle.meaning.specs.declared.answer.Refusal.TheVariants.{WrongKind}
-use Rattle.meaning.specs.declared.answer.Answer.TheVariants.{Done, Refused}
 use Rattle.meaning.specs.Pieces.{breaks}
 use Rattle.meaning.specs.Outcome.{refuse_if}
 use Rattle.meaning.specs.Collect.{met_of, collect, gather}
@@ -100,11 +100,11 @@ plan = make Ws then make (WriteOwned (cases.record_no 3))
 start : World
 start = world (cases.engine cases.a [] 0).state (0x61 ∷ 0x7E ∷ 0x7E ∷ 0x7E ∷ 0x7E ∷ [])
 
-goes : (run Done cases.script start plan).left.buffer ≡ 0x61 ∷ 0x20 ∷ 0x7A ∷ 0x7E ∷ 0x7E ∷ []
+goes : (run (Ok tt) cases.script start plan).left.buffer ≡ 0x61 ∷ 0x20 ∷ 0x7A ∷ 0x7E ∷ 0x7E ∷ []
 unfolding node_of cursor.behind table all_in len_by char_len starts in_source newlines breaks refuse_if trim_from met_of collect gather line_pieces space_pieces signed act step lent_state ready exec run plan start
 goes = refl
 
-breaks_off : run Done cases.script start (plan then refuse (WrongKind (cases.record_no 3)) then make Finish)
-    ≡ result (Refused (WrongKind (cases.record_no 3))) (world start.state (0x61 ∷ 0x00 ∷ 0x00 ∷ 0x00 ∷ 0x00 ∷ []))
+breaks_off : run (Ok tt) cases.script start (plan then refuse (WrongKind (cases.record_no 3)) then make Finish)
+    ≡ result (Err (WrongKind (cases.record_no 3))) (world start.state (0x61 ∷ 0x00 ∷ 0x00 ∷ 0x00 ∷ 0x00 ∷ []))
 unfolding node_of cursor.behind table all_in len_by char_len starts in_source newlines breaks refuse_if trim_from met_of collect gather line_pieces space_pieces signed act step lent_state ready exec run zeroed plan start
 breaks_off = refl

@@ -1,8 +1,8 @@
 -- Plans one after the other; and that no plan changes how long the buffer is. Assumes nothing.
+use Rattle.std.specs.Prelude.{Ok, Err}
 use mathlib.Core.Path.{◌≡◌, refl, ap, ◌∙◌}
 use lib.Seq.{length-sets}
-use Rattle.meaning.specs.declared.answer.Answer.{Answer}
-use Rattle.meaning.specs.declared.answer.Answer.TheVariants.{Done, Refused}
+use Rattle.meaning.specs.Answer.{Answer}
 use Rattle.meaning.specs.State.{Script}
 use Rattle.meaning.specs.Pieces.{flat}
 use Rattle.meaning.specs.Outcome.{Outcome, done, refused}
@@ -17,10 +17,10 @@ made_long w (refused r) = refl
 exec_long : (x : Script) (p : Plan) (a : Answer) (w : World) → capacity (exec x p (result a w)).left ≡ capacity w
 unfolding exec
 exec_long x nothing a w = refl
-exec_long x (make c) Done w = made_long w (step x (capacity w) w.state c)
-exec_long x (make c) (Refused r) w = refl
-exec_long x (refuse e) Done w = refl
-exec_long x (refuse e) (Refused r) w = refl
+exec_long x (make c) (Ok tt) w = made_long w (step x (capacity w) w.state c)
+exec_long x (make c) (Err r) w = refl
+exec_long x (refuse e) (Ok tt) w = refl
+exec_long x (refuse e) (Err r) w = refl
 exec_long x (p then q) a w = exec_long x q (exec x p (result a w)).answer (exec x p (result a w)).left ∙ exec_long x p a w
 
 -- so that a function's `same_length` follows from its `returns`

@@ -5,9 +5,8 @@ use mathlib.Core.Bool.{Bool, true, false, cond, not, ◌&&◌}
 use mathlib.Core.List.{List, [], ◌∷◌, ◌++◌, map}
 use lib.ListN.{drop}
 use Rattle.text.specs.declared.span.Span.{Span}
-use Rattle.encoding.specs.declared.utf8.Formed.TheVariants.{Well}
+use Rattle.encoding.specs.Utf8.{Well, formed, formed_from, table, all_in, len_by, char_len}
 use Rattle.text.specs.Span.{text_of}
-use Rattle.encoding.specs.Utf8.{formed, formed_from, table, all_in, len_by, char_len}
 use Rattle.text.specs.Chars.{in_source}
 use Rattle.text.specs.Trim.{trim}
 use Rattle.text.specs.Delete.{delete, delete_from, is_space, is_newline, Blanks, no_blank, a_blank}

@@ -5,7 +5,7 @@ use mathlib.Core.List.{List}
 use lib.ListN.{length}
 use Rattle.text.specs.Delete.{delete}
 use Rattle.text.proofs.Laws.{good_source}
-use Rattle.meaning.specs.declared.answer.Answer.{Answer}
+use Rattle.meaning.specs.Answer.{Answer}
 use Rattle.meaning.specs.State.{Script}
 use Rattle.meaning.specs.World.{opened, capacity}
 use Rattle.meaning.specs.History.{Event, after, went}

@@ -1,4 +1,5 @@
 -- A history, the refused left out, is one row of calls, and the buffer holds what they wrote. Assumes nothing.
+use Rattle.std.specs.Prelude.{Ok, Err}
 use mathlib.Core.Path.{◌≡◌, refl, sym, ap, ap₂, ◌∙◌}
 use Prim.Native.Nat.{ℕ, ◌+◌, ◌-◌, ◌≤◌}
 use native.Mathlib.Nat.{le_refl}
@@ -10,8 +11,7 @@ use lib.ListN.{drop}
 use lib.Seq.{sets, length-sets, drop-drop}
 use Rattle.meaning.specs.declared.call.Call.{Call}
 use Rattle.meaning.specs.declared.answer.Refusal.{Refusal}
-use Rattle.meaning.specs.declared.answer.Answer.{Answer}
-use Rattle.meaning.specs.declared.answer.Answer.TheVariants.{Done, Refused}
+use Rattle.meaning.specs.Answer.{Answer}
 use Rattle.meaning.specs.State.{Script, State}
 use Rattle.meaning.specs.Pieces.{Piece, flat}
 use Rattle.meaning.specs.Outcome.{Outcome, done, refused, refuse_if}
@@ -108,8 +108,8 @@ refuse_done false r o e = e
 
 pub lent_done : (opening : Answer) (x : Script) (cap : ℕ) (s₀ : State) (o : Outcome) {s : State} {ps : List Piece} → lent opening x cap s₀ o ≡ done s ps → o ≡ done s ps
 unfolding lent_state
-lent_done Done x cap s₀ o e = refuse_done _ _ _ (refuse_done _ _ _ (refuse_done _ _ _ e))
-lent_done (Refused r) x cap s₀ o e = let z : ◌≡◌ {A = ℕ} 0 1 = cc in absurd (omega arith)
+lent_done (Ok tt) x cap s₀ o e = refuse_done _ _ _ (refuse_done _ _ _ (refuse_done _ _ _ e))
+lent_done (Err r) x cap s₀ o e = let z : ◌≡◌ {A = ℕ} 0 1 = cc in absurd (omega arith)
 
 -- ---- the events
 
@@ -140,8 +140,8 @@ module _ (opening : Answer) (x : Script) where
   run_counted w p a w₁ on_refused = traced_none x w _ refl (zeroed_length w.state.len w.buffer) (zeroed_below w.state.len w.buffer)
 
   ready_on : (w : World) (a : Answer) → OnRun x (Reached x w) [] a w
-  ready_on w Done = on_done (record { traced = traced_none x w w refl refl refl; grown = record { longer = le_refl _; beyond = refl } })
-  ready_on w (Refused r) = on_refused
+  ready_on w (Ok tt) = on_done (record { traced = traced_none x w w refl refl refl; grown = record { longer = le_refl _; beyond = refl } })
+  ready_on w (Err r) = on_refused
 
   pub run_on : (w : World) (p : Plan) → w.state.len ≤ capacity w → (r : Result) → exec x p (result (ready opening x w) w) ≡ r → OnRun x (Reached x w) (calls_of p) r.answer r.left
   run_on w p h r e = rw (← e) (exec_on x (Reached x w) (reach_on x h) p _ (ready_on w (ready opening x w)))

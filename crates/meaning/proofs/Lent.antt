@@ -1,4 +1,5 @@
 -- In a history the checks on what is lent refuse nothing. Assumes nothing.
+use Rattle.std.specs.Prelude.{Ok}
 use mathlib.Core.Path.{◌≡◌, refl, ap, ◌∙◌}
 use Prim.Native.Nat.{ℕ}
 use mathlib.Core.Bool.{false}
@@ -6,7 +7,6 @@ use mathlib.Core.List.{List, [], ◌∷◌, map}
 use lib.ListN.{length}
 use borrow.Author.Tests.{le-ltb}
 use Rattle.meaning.specs.declared.call.Call.{Call}
-use Rattle.meaning.specs.declared.answer.Answer.TheVariants.{Done}
 use Rattle.meaning.specs.State.{Script, Comment, note_of, State}
 use Rattle.meaning.specs.Outcome.{Outcome, done}
 use Rattle.meaning.specs.Calls.{if_open, step}
@@ -25,7 +25,7 @@ none_outside : (src : List ℕ) (q : List Comment) → Inside src (map note_of q
 none_outside src [] g = refl
 none_outside src (c ∷ cs) (a_note h r) = rw h (none_outside src cs r)
 
-pub sound_lent : (x : Script) (cap : ℕ) (s : State) → Sound x.source cap s → (o : Outcome) → lent Done x cap s o ≡ o
+pub sound_lent : (x : Script) (cap : ℕ) (s : State) → Sound x.source cap s → (o : Outcome) → lent (Ok tt) x cap s o ≡ o
 unfolding lent_state
 sound_lent x cap s h o =
     goes _ _ _ (le-ltb cap s.len h.fits)
@@ -34,23 +34,23 @@ sound_lent x cap s h o =
 
 -- the world behind a history over an opened script
 abbrev pub last : Script → List ℕ → List Event → World
-last x buf es = after Done x (opened buf) es
+last x buf es = after (Ok tt) x (opened buf) es
 
 module _ (x : Script) (opens : Opens x) (buf : List ℕ) (es : List Event) where
-  pub lent_never_refuses : (o : Outcome) → lent Done x (capacity (last x buf es)) (last x buf es).state o ≡ o
-  lent_never_refuses o = rw (same_size Done x opens buf es) (sound_lent x (length buf) (last x buf es).state (sound Done x opens buf es) o)
+  pub lent_never_refuses : (o : Outcome) → lent (Ok tt) x (capacity (last x buf es)) (last x buf es).state o ≡ o
+  lent_never_refuses o = rw (same_size (Ok tt) x opens buf es) (sound_lent x (length buf) (last x buf es).state (sound (Ok tt) x opens buf es) o)
 
   -- so a call there does what its steps do, a call record what its call does, and a run begins unless the engine is finished
-  pub serve_is_step : (c : Call) → serve Done x (capacity (last x buf es)) (last x buf es).state c ≡ step x (capacity (last x buf es)) (last x buf es).state c
+  pub serve_is_step : (c : Call) → serve (Ok tt) x (capacity (last x buf es)) (last x buf es).state c ≡ step x (capacity (last x buf es)) (last x buf es).state c
   unfolding serve
   serve_is_step c = lent_never_refuses _
 
   pub record_is_asked : (p : ℕ) (bytes : List ℕ)
-      → serve_record Done x (capacity (last x buf es)) (last x buf es).state p bytes
+      → serve_record (Ok tt) x (capacity (last x buf es)) (last x buf es).state p bytes
       ≡ asked p (decode bytes) (step x (capacity (last x buf es)) (last x buf es).state)
   unfolding serve_record
   record_is_asked p bytes = lent_never_refuses _
 
-  pub ready_is_open : ready Done x (last x buf es) ≡ answer_of (if_open (last x buf es).state (done (last x buf es).state []))
+  pub ready_is_open : ready (Ok tt) x (last x buf es) ≡ answer_of (if_open (last x buf es).state (done (last x buf es).state []))
   unfolding ready
   ready_is_open = ap answer_of (lent_never_refuses _)

@@ -7,19 +7,15 @@ use mathlib.Core.List.{List, [], ◌∷◌, ◌++◌}
 use lib.Dec.{leb}
 use lib.ListN.{length, take, drop}
 use lib.ListN.{take-append-drop}
-use Rattle.text.specs.declared.source.Checked.{Checked}
-use Rattle.text.specs.declared.source.Checked.TheVariants as source
+use Rattle.std.specs.Prelude.{Ok, Err}
+use Rattle.text.specs.Source.{Checked}
 use Rattle.text.specs.Source as source-check
 use Rattle.text.specs.Chars.{in_source}
 use Rattle.tree.specs.declared.record.Record.{Record}
 use Rattle.tree.specs.declared.record.RecordNo.{RecordNo}
-use Rattle.opening.specs.declared.levels.Verdict.{Verdict}
-use Rattle.opening.specs.declared.levels.Verdict.TheVariants as tree
-use Rattle.opening.specs.declared.open.Opening.TheVariants as found
 use Rattle.tree.specs.Records.{start_of, end_of, records}
-use Rattle.opening.specs.Check.{Finding, fine, bad, deep, ◌then◌, keeps, along, level, verdict_as, checked}
+use Rattle.opening.specs.Check.{Finding, fine, bad, deep, ◌then◌, keeps, along, level, Verdict, verdict_as, checked}
 use Rattle.opening.specs.Opening.{of_source, opened}
-use Rattle.meaning.specs.declared.answer.Answer.TheVariants.{Done}
 use Rattle.meaning.specs.Opening.{script_in, answer_to, opening}
 use Rattle.meaning.specs.World as World
 use Rattle.meaning.specs.History.{Event, after, went}
@@ -70,27 +66,25 @@ level_inside src (suc d) = along_inside src _ (λ i r rs e. level_inside src d 0
 
 -- ---- opening
 
-tree_inside : (src list : List ℕ) (n : RecordNo) → checked src list ≡ tree.Good n → SpansInside src (records list)
+tree_inside : (src list : List ℕ) (n : RecordNo) → checked src list ≡ Ok n → SpansInside src (records list)
 unfolding checked
 tree_inside src list n e = go (level src 64 0 0 0 (length src) (records list)) refl e
   where
-    go : (f : Finding) → level src 64 0 0 0 (length src) (records list) ≡ f → verdict_as f (length (records list)) ≡ tree.Good n → SpansInside src (records list)
+    go : (f : Finding) → level src 64 0 0 0 (length src) (records list) ≡ f → verdict_as f (length (records list)) ≡ Ok n → SpansInside src (records list)
     go fine l e = level_inside src 64 0 0 0 (length src) (records list) l
     go (bad i) l e = let z : ◌≡◌ {A = ℕ} 0 1 = cc in absurd (omega arith)
     go (deep i) l e = let z : ◌≡◌ {A = ℕ} 0 1 = cc in absurd (omega arith)
 
-pub opening_opens : (src list : List ℕ) → opening src list ≡ Done → Opens (script_in src list)
+pub opening_opens : (src list : List ℕ) → opening src list ≡ Ok tt → Opens (script_in src list)
 unfolding opened
 opening_opens src list e = go (source-check.checked src) (checked src list) refl refl e
   where
-    go : (c : Checked) (v : Verdict) → source-check.checked src ≡ c → checked src list ≡ v → answer_to (of_source c v) ≡ Done → Opens (script_in src list)
-    go source.Good (tree.Good n) p q e = record { source_good = p; spans_inside = tree_inside src list n q }
-    go source.Good (tree.Bad i) p q e = let z : ◌≡◌ {A = ℕ} 0 1 = cc in absurd (omega arith)
-    go source.Good (tree.Deep i) p q e = let z : ◌≡◌ {A = ℕ} 0 1 = cc in absurd (omega arith)
-    go source.Long v p q e = let z : ◌≡◌ {A = ℕ} 0 1 = cc in absurd (omega arith)
-    go (source.Ill a) v p q e = let z : ◌≡◌ {A = ℕ} 0 1 = cc in absurd (omega arith)
+    go : (c : Checked) (v : Verdict) → source-check.checked src ≡ c → checked src list ≡ v → answer_to (of_source c v) ≡ Ok tt → Opens (script_in src list)
+    go (Ok u) (Ok n) p q e = record { source_good = p; spans_inside = tree_inside src list n q }
+    go (Ok u) (Err f) p q e = let z : ◌≡◌ {A = ℕ} 0 1 = cc in absurd (omega arith)
+    go (Err f) v p q e = let z : ◌≡◌ {A = ℕ} 0 1 = cc in absurd (omega arith)
 
 -- demand 3 of bytes that opening lets in
-pub demand3_opened : (src list : List ℕ) → opening src list ≡ Done → (buf : List ℕ) (es : List Event)
-    → Demand3 (script_in src list) (went Done (script_in src list) (World.opened buf) es) (after Done (script_in src list) (World.opened buf) es)
-demand3_opened src list e buf es = demand3 Done (script_in src list) (opening_opens src list e) buf es
+pub demand3_opened : (src list : List ℕ) → opening src list ≡ Ok tt → (buf : List ℕ) (es : List Event)
+    → Demand3 (script_in src list) (went (Ok tt) (script_in src list) (World.opened buf) es) (after (Ok tt) (script_in src list) (World.opened buf) es)
+demand3_opened src list e buf es = demand3 (Ok tt) (script_in src list) (opening_opens src list e) buf es

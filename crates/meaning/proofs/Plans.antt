@@ -1,11 +1,11 @@
 -- Laws of plans, for the proofs of layout rules. Assumes nothing.
+use Rattle.std.specs.Prelude.{Ok, Err}
 use mathlib.Core.Path.{◌≡◌, refl, ap, ◌∙◌}
 use mathlib.Core.List.{List, [], ◌∷◌, ◌++◌, append-nil, append_assoc}
 use lib.Seq.{sets}
 use Rattle.meaning.specs.declared.call.Call.{Call}
 use Rattle.meaning.specs.declared.answer.Refusal.{Refusal}
-use Rattle.meaning.specs.declared.answer.Answer.{Answer}
-use Rattle.meaning.specs.declared.answer.Answer.TheVariants.{Done, Refused}
+use Rattle.meaning.specs.Answer.{Answer}
 use Rattle.meaning.specs.State.{Script, State}
 use Rattle.meaning.specs.Pieces.{Piece, flat}
 use Rattle.meaning.specs.Outcome.{Outcome, done, refused}
@@ -15,7 +15,7 @@ use Rattle.meaning.specs.Plan.{Plan, nothing, make, refuse, ◌then◌, calls_of
 
 module _ (x : Script) where
   -- a refusal is sticky
-  pub sticky : (p : Plan) (r : Refusal) (w : World) → exec x p (result (Refused r) w) ≡ result (Refused r) w
+  pub sticky : (p : Plan) (r : Refusal) (w : World) → exec x p (result (Err r) w) ≡ result (Err r) w
   unfolding exec
   sticky nothing r w = refl
   sticky (make c) r w = refl
@@ -31,11 +31,11 @@ module _ (x : Script) where
   unfolding exec
   exec_then p q r = refl
 
-  pub exec_make : (c : Call) (w : World) → exec x (make c) (result Done w) ≡ made w (step x (capacity w) w.state c)
+  pub exec_make : (c : Call) (w : World) → exec x (make c) (result (Ok tt) w) ≡ made w (step x (capacity w) w.state c)
   unfolding exec
   exec_make c w = refl
 
-  pub exec_refuse : (a : Refusal) (w : World) → exec x (refuse a) (result Done w) ≡ result (Refused a) w
+  pub exec_refuse : (a : Refusal) (w : World) → exec x (refuse a) (result (Ok tt) w) ≡ result (Err a) w
   unfolding exec
   exec_refuse a w = refl
 
@@ -44,8 +44,8 @@ module _ (x : Script) where
 module _ (x : Script) (P : List Call → World → Type 0) where
   -- of an answer and a world: where nothing was refused, P holds of the calls made so far
   pub data OnRun (cs : List Call) : Answer → World → Type 0 where
-    on_done : {w : World} → P cs w → OnRun cs Done w
-    on_refused : {r : Refusal} {w : World} → OnRun cs (Refused r) w
+    on_done : {w : World} → P cs w → OnRun cs (Ok tt) w
+    on_refused : {r : Refusal} {w : World} → OnRun cs (Err r) w
 
   -- if each call that goes keeps P, a plan that goes keeps it
   abbrev pub Kept : Type 0

@@ -8,8 +8,7 @@ use mathlib.Core.Bool.{Bool, true, false, true≢false}
 use mathlib.Core.List.{List, [], ◌∷◌, ◌++◌, map, append-nil}
 use lib.ListN.{length, length-append, length-map}
 use borrow.Author.Tests.{ltb-false}
-use Rattle.encoding.specs.declared.utf8.Formed.TheVariants.{Well}
-use Rattle.encoding.specs.Utf8.{formed}
+use Rattle.encoding.specs.Utf8.{Well, formed}
 use Rattle.tree.specs.declared.record.RecordNo.{RecordNo}
 use Rattle.meaning.specs.declared.call.Hint.{Hint}
 use Rattle.meaning.specs.declared.call.Hint.TheVariants.{Line, Prefix, Suffix, Infix}

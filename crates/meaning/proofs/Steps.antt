@@ -5,8 +5,7 @@ use native.Mathlib.Nat.{add-zero, add_assoc}
 use mathlib.Core.Bool.{true, false, true≢false}
 use mathlib.Core.List.{List, [], ◌∷◌, ◌++◌, map, append_assoc}
 use lib.ListN.{length, length-append}
-use Rattle.encoding.specs.declared.utf8.Formed.TheVariants.{Well}
-use Rattle.encoding.specs.Utf8.{formed}
+use Rattle.encoding.specs.Utf8.{Well, formed}
 use Rattle.meaning.specs.declared.call.Call.{Call}
 use Rattle.meaning.specs.State.{Script, note_of, State, fresh}
 use Rattle.meaning.specs.Pieces.{Piece, flat}

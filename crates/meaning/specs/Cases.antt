@@ -1,12 +1,11 @@
 -- The small sessions P1 to P10 of document 01, as one table. Assumes nothing.
-use Rattle.std.specs.Prelude.{ℕ, Bool, true, false, ◌&&◌, List, [], ◌∷◌, ◌++◌, length, replicate, eqb}
+use Rattle.std.specs.Prelude.{ℕ, Bool, true, false, ◌&&◌, List, [], ◌∷◌, ◌++◌, length, replicate, eqb, Ok}
 use Rattle.tree.specs.declared.record.Record.{Record}
 use Rattle.tree.specs.declared.record.RecordNo.{RecordNo}
 use Rattle.tree.specs.Records.{span_of}
 use Rattle.meaning.specs.declared.call.Hint.TheVariants.{Prefix}
 use Rattle.meaning.specs.declared.call.Call.{Call}
 use Rattle.meaning.specs.declared.call.Call.TheVariants.{WriteOwned, WriteRaw, Comments, Indent, Nl, Ws, FlushPrefixComments, Finish}
-use Rattle.meaning.specs.declared.answer.Answer.TheVariants.{Done}
 use Rattle.meaning.specs.State.{Script, Comment}
 use Rattle.meaning.specs.World.{World, world, output, Result, result, call}
 use Rattle.meaning.specs.Numbers.{Seen, ◌from◌, seen}
@@ -77,7 +76,7 @@ same (a ∷ as') (b ∷ bs) = eqb a b && same as' bs
 -- calls one by one; the answer is the last one's
 unfoldable pub calls : Result → List Call → Result
 calls r [] = r
-calls r (c ∷ cs) = calls (call Done script r.left c) cs
+calls r (c ∷ cs) = calls (call (Ok tt) script r.left c) cs
 
 abbrev pub fits : Result → Seen → List ℕ → ℕ → Bool
 fits r s out n =
@@ -89,7 +88,7 @@ fits r s out n =
 unfoldable pub passes : Case → Bool
 unfolding counted width_of
 passes (wide bs limit n) = eqb (width_of bs (span_of 0 (length bs)) limit) n
-passes (session w cs s out n) = fits (calls (result Done w) cs) s out n
+passes (session w cs s out n) = fits (calls (result (Ok tt) w) cs) s out n
 
 abbrev pub all_pass : List Case → Bool
 all_pass [] = true

@@ -1,7 +1,6 @@
 -- Demand 3: what stands in the output behind any history, by the calls that went. Assumes nothing.
 use Rattle.std.specs.Prelude.{◌≡◌, ℕ, suc, ◌<◌, true, List, [], ◌∷◌, ◌++◌, map}
-use Rattle.text.specs.declared.source.Checked.TheVariants.{Good}
-use Rattle.text.specs.Source.{checked}
+use Rattle.text.specs.Source.{Good, checked}
 use Rattle.text.specs.Span.{text_of}
 use Rattle.text.specs.Chars.{in_source}
 use Rattle.text.specs.Delete.{delete}

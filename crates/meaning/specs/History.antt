@@ -1,9 +1,8 @@
 -- Histories: calls, call records and runs, in any order, over one source, tree and buffer. Assumes nothing.
-use Rattle.std.specs.Prelude.{ℕ, List, [], ◌∷◌, ◌++◌}
+use Rattle.std.specs.Prelude.{ℕ, List, [], ◌∷◌, ◌++◌, Ok, Err}
 use Rattle.std.proofs.Math.Option.{Option, none, some}
 use Rattle.meaning.specs.declared.call.Call.{Call}
-use Rattle.meaning.specs.declared.answer.Answer.{Answer}
-use Rattle.meaning.specs.declared.answer.Answer.TheVariants.{Done, Refused}
+use Rattle.meaning.specs.Answer.{Answer}
 use Rattle.meaning.specs.State.{Script}
 use Rattle.meaning.specs.CallRecord.{decode}
 use Rattle.meaning.specs.World.{World, Result, call, call_record}
@@ -26,8 +25,8 @@ asks (a_run p) = calls_of p
 
 -- they count where nothing was refused
 abbrev pub counts : Answer → List Call → List Call
-counts Done cs = cs
-counts (Refused r) cs = []
+counts (Ok tt) cs = cs
+counts (Err r) cs = []
 
 module _ (opening : Answer) (x : Script) where
   abbrev pub happens : World → Event → Result

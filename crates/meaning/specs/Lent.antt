@@ -1,10 +1,9 @@
 -- Source, tree, state and buffer are lent anew at each call and run, and checked before all else. Assumes nothing.
-use Rattle.std.specs.Prelude.{ℕ, Bool, false, not, ◌||◌, List, [], ◌∷◌, length, ltb}
+use Rattle.std.specs.Prelude.{ℕ, Bool, false, not, ◌||◌, List, [], ◌∷◌, length, ltb, Ok, Err}
 use Rattle.text.specs.Chars.{in_source}
 use Rattle.meaning.specs.declared.call.Call.{Call}
 use Rattle.meaning.specs.declared.answer.Refusal.TheVariants.{NoRoom, QueueFull, IndentOut}
-use Rattle.meaning.specs.declared.answer.Answer.{Answer}
-use Rattle.meaning.specs.declared.answer.Answer.TheVariants.{Done, Refused}
+use Rattle.meaning.specs.Answer.{Answer}
 use Rattle.meaning.specs.State.{Script, Comment, State}
 use Rattle.meaning.specs.Outcome.{Outcome, refused, refuse_if}
 use Rattle.meaning.specs.Calls.{step}
@@ -25,8 +24,8 @@ lent_state x cap s o =
 
 -- `opening` is what opening answers to this source and tree: 1, 2, 3, 7 come first
 abbrev pub lent : Answer → Script → ℕ → State → Outcome → Outcome
-lent Done x cap s o = lent_state x cap s o
-lent (Refused r) x cap s o = refused r
+lent (Ok tt) x cap s o = lent_state x cap s o
+lent (Err r) x cap s o = refused r
 
 -- a call, and a call record whose first byte has place p
 unfoldable pub serve : Answer → Script → ℕ → State → Call → Outcome

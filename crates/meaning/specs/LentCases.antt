@@ -1,9 +1,8 @@
 -- The checks on what is lent, their order, and the order of 12, 10 and 11 behind them: a row for each sentence of document 01. Assumes nothing.
-use Rattle.std.specs.Prelude.{ℕ, Bool, true, false, ◌&&◌, List, [], ◌∷◌, ◌++◌, replicate, eqb}
+use Rattle.std.specs.Prelude.{ℕ, Bool, true, false, ◌&&◌, List, [], ◌∷◌, ◌++◌, replicate, eqb, Ok, Err}
 use Rattle.tree.specs.Records.{span_of}
 use Rattle.meaning.specs.declared.answer.Refusal.TheVariants.{TreeBad, WrongKind}
-use Rattle.meaning.specs.declared.answer.Answer.{Answer}
-use Rattle.meaning.specs.declared.answer.Answer.TheVariants.{Done, Refused}
+use Rattle.meaning.specs.Answer.{Answer}
 use Rattle.meaning.specs.State.{Script, Comment}
 use Rattle.meaning.specs.World.{World, world, call_record}
 use Rattle.meaning.specs.Plan.{Plan, nothing, refuse, run}
@@ -51,7 +50,7 @@ abbrev pub is_seen : Answer → Seen → Bool
 is_seen a s = eqb (seen a).number s.number && eqb (seen a).place s.place
 
 unfoldable pub holds_true : Row → Bool
-holds_true (lent w s) = is_seen (call_record Done script w (0x08 ∷ [])).answer s && is_seen (run Done script w nothing).answer s
+holds_true (lent w s) = is_seen (call_record (Ok tt) script w (0x08 ∷ [])).answer s && is_seen (run (Ok tt) script w nothing).answer s
 holds_true (called a w bytes s) = is_seen (call_record a script w bytes).answer s
 holds_true (ran a w p s) = is_seen (run a script w p).answer s
 
@@ -102,27 +101,27 @@ table =
     ∷ lent (lends 0 (replicate 257 good) 65) (5 from 8192)
     ∷ lent (lends 6 (outside ∷ []) 65) (4 from 6)
     -- what opening refuses comes before them
-    ∷ called (Refused (TreeBad (record_no 1))) (holds 6 (outside ∷ []) 65 true) unknown (3 from 1)
-    ∷ ran (Refused (TreeBad (record_no 1))) (holds 6 (outside ∷ []) 65 true) wrong (3 from 1)
+    ∷ called (Err (TreeBad (record_no 1))) (holds 6 (outside ∷ []) 65 true) unknown (3 from 1)
+    ∷ ran (Err (TreeBad (record_no 1))) (holds 6 (outside ∷ []) 65 true) wrong (3 from 1)
     -- 12 and 10 come behind them
-    ∷ called Done (holds 6 [] 0 true) unknown (4 from 6)
-    ∷ called Done (holds 0 (outside ∷ []) 0 true) unknown (5 from 8192)
-    ∷ called Done (holds 0 [] 65 true) unknown (6 from 65)
-    ∷ ran Done (holds 6 [] 0 true) wrong (4 from 6)
-    ∷ ran Done (holds 0 (outside ∷ []) 0 true) wrong (5 from 8192)
-    ∷ ran Done (holds 0 [] 65 true) wrong (6 from 65)
+    ∷ called (Ok tt) (holds 6 [] 0 true) unknown (4 from 6)
+    ∷ called (Ok tt) (holds 0 (outside ∷ []) 0 true) unknown (5 from 8192)
+    ∷ called (Ok tt) (holds 0 [] 65 true) unknown (6 from 65)
+    ∷ ran (Ok tt) (holds 6 [] 0 true) wrong (4 from 6)
+    ∷ ran (Ok tt) (holds 0 (outside ∷ []) 0 true) wrong (5 from 8192)
+    ∷ ran (Ok tt) (holds 0 [] 65 true) wrong (6 from 65)
     -- 12 before 10 before 11 before what the call's steps meet
-    ∷ called Done (holds 5 [] 0 true) unknown (12 from 0)
-    ∷ called Done (holds 5 [] 0 true) (write_owned 4) (10 from 5)
-    ∷ called Done (lends 5 [] 0) (write_owned 4) (11 from 4)
-    ∷ called Done (lends 5 [] 0) (write_owned 3) (4 from 5)
-    ∷ called Done (lends 4 [] 0) (write_owned 3) done
+    ∷ called (Ok tt) (holds 5 [] 0 true) unknown (12 from 0)
+    ∷ called (Ok tt) (holds 5 [] 0 true) (write_owned 4) (10 from 5)
+    ∷ called (Ok tt) (lends 5 [] 0) (write_owned 4) (11 from 4)
+    ∷ called (Ok tt) (lends 5 [] 0) (write_owned 3) (4 from 5)
+    ∷ called (Ok tt) (lends 4 [] 0) (write_owned 3) done
     -- a run: 10 before what its plan refuses
-    ∷ ran Done (holds 5 [] 0 true) wrong (10 from 5)
-    ∷ ran Done (lends 5 [] 0) wrong (8 from 1)
+    ∷ ran (Ok tt) (holds 5 [] 0 true) wrong (10 from 5)
+    ∷ ran (Ok tt) (lends 5 [] 0) wrong (8 from 1)
     -- a 257th comment would wait: its record
-    ∷ called Done (lends 0 (replicate 254 good) 0) (ignore 0) done
-    ∷ called Done (lends 0 (replicate 255 good) 0) (ignore 0) (5 from 2)
-    ∷ called Done (lends 0 (replicate 256 good) 0) (ignore 0) (5 from 1)
-    ∷ called Done (lends 0 (replicate 256 good) 0) (ignore 3) done
+    ∷ called (Ok tt) (lends 0 (replicate 254 good) 0) (ignore 0) done
+    ∷ called (Ok tt) (lends 0 (replicate 255 good) 0) (ignore 0) (5 from 2)
+    ∷ called (Ok tt) (lends 0 (replicate 256 good) 0) (ignore 0) (5 from 1)
+    ∷ called (Ok tt) (lends 0 (replicate 256 good) 0) (ignore 3) done
     ∷ []

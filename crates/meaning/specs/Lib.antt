@@ -1,3 +1,4 @@
+pub mod Answer
 pub mod State
 pub mod Pieces
 pub mod Outcome

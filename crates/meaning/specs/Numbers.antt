@@ -1,9 +1,8 @@
 -- Numbers an operator sees: of each refusal its number and the place returned. Assumes nothing.
-use Rattle.std.specs.Prelude.{◌≡◌, ℕ, zero, suc, ◌%◌, List, [], ◌∷◌, get_or}
+use Rattle.std.specs.Prelude.{◌≡◌, ℕ, zero, suc, ◌%◌, List, [], ◌∷◌, ◌++◌, get_or, codes, decimal, Ok, Err}
 use Rattle.meaning.specs.declared.answer.Refusal.{Refusal}
 use Rattle.meaning.specs.declared.answer.Refusal.TheVariants.{SourceLong, SourceIll, TreeBad, NoRoom, QueueFull, IndentOut, TreeDeep, WrongKind, NoRule, Finished, NoNode, BadCall}
-use Rattle.meaning.specs.declared.answer.Answer.{Answer}
-use Rattle.meaning.specs.declared.answer.Answer.TheVariants.{Done, Refused}
+use Rattle.meaning.specs.Answer.{Answer}
 
 pub record Seen : Type 0 where
   pub number : ℕ
@@ -27,10 +26,14 @@ refusal_seen (Finished len) = 10 from len
 refusal_seen (NoNode k) = 11 from k.0
 refusal_seen (BadCall p) = 12 from p
 
+-- a refusal as it is printed
+abbrev pub refusal_text : Refusal → List ℕ
+refusal_text r = codes "refusal " ++ (decimal (refusal_seen r).number ++ (codes ", place " ++ decimal (refusal_seen r).place))
+
 -- 0 and 0 where nothing is refused
 abbrev pub seen : Answer → Seen
-seen Done = 0 from 0
-seen (Refused r) = refusal_seen r
+seen (Ok tt) = 0 from 0
+seen (Err r) = refusal_seen r
 
 -- ---- read back
 
@@ -42,8 +45,8 @@ refusals_at p k =
 
 -- the answer of a number and a place
 abbrev pub answer_by : ℕ → ℕ → Answer
-answer_by zero p = Done
-answer_by (suc n) p = Refused (get_or (refusals_at p (p % 0x1_0000_0000)) n (BadCall p))
+answer_by zero p = Ok tt
+answer_by (suc n) p = Err (get_or (refusals_at p (p % 0x1_0000_0000)) n (BadCall p))
 
 -- p is the place of the answer, and with its number it tells the answer again
 pub record Placed (a : Answer) (p : ℕ) : Type 0 where

@@ -1,9 +1,8 @@
 -- Runs. A layout rule is a plan: the calls that it makes, in order, and "refuse" where it refuses. Assumes nothing.
-use Rattle.std.specs.Prelude.{◌≡◌, ℕ, ◌-◌, List, [], ◌∷◌, ◌++◌, length, take, replicate}
+use Rattle.std.specs.Prelude.{◌≡◌, ℕ, ◌-◌, List, [], ◌∷◌, ◌++◌, length, take, replicate, Ok, Err}
 use Rattle.meaning.specs.declared.call.Call.{Call}
 use Rattle.meaning.specs.declared.answer.Refusal.{Refusal}
-use Rattle.meaning.specs.declared.answer.Answer.{Answer}
-use Rattle.meaning.specs.declared.answer.Answer.TheVariants.{Done, Refused}
+use Rattle.meaning.specs.Answer.{Answer}
 use Rattle.meaning.specs.State.{Script}
 use Rattle.meaning.specs.Outcome.{Outcome, done, refused}
 use Rattle.meaning.specs.Calls.{if_open, step}
@@ -26,14 +25,14 @@ calls_of (p then q) = calls_of p ++ calls_of q
 
 -- a refusal is sticky: what comes behind it changes nothing
 abbrev pub go_on : Answer → World → (World → Result) → Result
-go_on Done w next = next w
-go_on (Refused r) w next = result (Refused r) w
+go_on (Ok tt) w next = next w
+go_on (Err r) w next = result (Err r) w
 
 -- the plan executed from a result on, call by call
 unfoldable pub exec : Script → Plan → Result → Result
 exec x nothing r = r
 exec x (make c) r = go_on r.answer r.left (λ w. made w (step x (capacity w) w.state c))
-exec x (refuse a) r = go_on r.answer r.left (λ w. result (Refused a) w)
+exec x (refuse a) r = go_on r.answer r.left (λ w. result (Err a) w)
 exec x (p then q) r = exec x q (exec x p r)
 
 -- the one form of contract for calls and rules: the plan p, executed from r, gives r'
@@ -51,12 +50,12 @@ abbrev pub put_back : World → Result → Result
 put_back w r = back r.answer
   where
     back : Answer → Result
-    back Done = r
-    back (Refused a) = result (Refused a) (world w.state (zeroed w.state.len w.buffer))
+    back (Ok tt) = r
+    back (Err a) = result (Err a) (world w.state (zeroed w.state.len w.buffer))
 
 abbrev pub answer_of : Outcome → Answer
-answer_of (done s ps) = Done
-answer_of (refused r) = Refused r
+answer_of (done s ps) = Ok tt
+answer_of (refused r) = Err r
 
 -- the checks on what is lent, then 10; 11, 9 and 8 are refusals of the plan
 unfoldable pub ready : Answer → Script → World → Answer

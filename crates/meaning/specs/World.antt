@@ -1,9 +1,8 @@
 -- The engine with the buffer that is lent to it, and what a call leaves of both. Assumes nothing.
-use Rattle.std.specs.Prelude.{ℕ, List, length, take}
+use Rattle.std.specs.Prelude.{ℕ, List, length, take, Ok, Err}
 use Rattle.std.proofs.lemmas.List.Edits.{sets}
 use Rattle.meaning.specs.declared.call.Call.{Call}
-use Rattle.meaning.specs.declared.answer.Answer.{Answer}
-use Rattle.meaning.specs.declared.answer.Answer.TheVariants.{Done, Refused}
+use Rattle.meaning.specs.Answer.{Answer}
 use Rattle.meaning.specs.State.{Script, State, fresh}
 use Rattle.meaning.specs.Pieces.{flat}
 use Rattle.meaning.specs.Outcome.{Outcome, done, refused}
@@ -35,8 +34,8 @@ result a w = record { answer = a; left = w }
 
 -- the pieces go to the output's end; a refusal leaves everything
 abbrev pub made : World → Outcome → Result
-made w (done s ps) = result Done (world s (sets w.buffer w.state.len (flat ps)))
-made w (refused r) = result (Refused r) w
+made w (done s ps) = result (Ok tt) (world s (sets w.buffer w.state.len (flat ps)))
+made w (refused r) = result (Err r) w
 
 module _ (opening : Answer) (x : Script) where
   unfoldable pub call : World → Call → Result

@@ -1,7 +1,8 @@
 // What a call or a run answers.
-ghost use Rattle.std.specs.Prelude.{◌≡◌};
-ghost use Rattle.meaning.specs.Numbers.{seen, answer_by, Placed};
+ghost use Rattle.std.specs.Prelude.{◌≡◌, Some};
+ghost use Rattle.meaning.specs.Numbers.{refusal_seen, refusal_text, seen, answer_by, Placed};
 
+use std::fmt;
 use text::span::BytePos;
 use tree::record::RecordNo;
 
@@ -23,19 +24,15 @@ pub enum Refusal {
     BadCall(usize),
 }
 
-#[derive(Clone, Copy)]
-pub enum Answer {
-    Done,
-    Refused(Refusal),
-}
+// Done, or the refusal.
+pub type Answer = Result<(), Refusal>;
 
-// The number that an operator sees, 0 where nothing is refused.
-pub fn number(a: Answer) -> u32
-    ensures { result ≡ (seen a).number }
-{
-    match a {
-        Answer::Done => 0,
-        Answer::Refused(r) => match r {
+impl Refusal {
+    // The number that an operator sees.
+    pub fn number(self) -> u32
+        ensures { result ≡ (refusal_seen self).number }
+    {
+        match self {
             Refusal::SourceLong => 1,
             Refusal::SourceIll(_) => 2,
             Refusal::TreeBad(_) => 3,
@@ -48,27 +45,47 @@ pub fn number(a: Answer) -> u32
             Refusal::Finished(_) => 10,
             Refusal::NoNode(_) => 11,
             Refusal::BadCall(_) => 12,
-        },
+        }
+    }
+
+    // The place that is returned with it.
+    pub fn place(self) -> usize
+        ensures { Placed (Err self) result }
+    {
+        match self {
+            Refusal::SourceLong => 65536,
+            Refusal::SourceIll(p) => p.0 as usize,
+            Refusal::TreeBad(k) => k.0 as usize,
+            Refusal::NoRoom(len) => len,
+            Refusal::QueueFull(k) => k.0 as usize,
+            Refusal::IndentOut(n) => n as usize,
+            Refusal::TreeDeep(k) => k.0 as usize,
+            Refusal::WrongKind(k) => k.0 as usize,
+            Refusal::NoRule(k) => k.0 as usize,
+            Refusal::Finished(len) => len,
+            Refusal::NoNode(k) => k.0 as usize,
+            Refusal::BadCall(p) => p,
+        }
     }
 }
 
-// The place that is returned with a refusal.
-fn place_of(r: Refusal) -> usize
-    ensures { Placed (Answer.Refused r) result }
+impl fmt::Display for Refusal {
+    ghost output = { λ r. Some (refusal_text r) };
+
+    fn fmt<W: fmt::Write>(&self, f: &mut fmt::Formatter<W>) -> fmt::Result {
+        let number = self.number();
+        let place = self.place();
+        write!(f, "refusal {number}, place {place}")
+    }
+}
+
+// The number that an operator sees, 0 where nothing is refused.
+pub fn number(a: Answer) -> u32
+    ensures { result ≡ (seen a).number }
 {
-    match r {
-        Refusal::SourceLong => 65536,
-        Refusal::SourceIll(p) => p.0 as usize,
-        Refusal::TreeBad(k) => k.0 as usize,
-        Refusal::NoRoom(len) => len,
-        Refusal::QueueFull(k) => k.0 as usize,
-        Refusal::IndentOut(n) => n as usize,
-        Refusal::TreeDeep(k) => k.0 as usize,
-        Refusal::WrongKind(k) => k.0 as usize,
-        Refusal::NoRule(k) => k.0 as usize,
-        Refusal::Finished(len) => len,
-        Refusal::NoNode(k) => k.0 as usize,
-        Refusal::BadCall(p) => p,
+    match a {
+        Ok(()) => 0,
+        Err(r) => r.number(),
     }
 }
 
@@ -77,8 +94,8 @@ pub fn place(a: Answer) -> usize
     ensures { Placed a result }
 {
     match a {
-        Answer::Done => 0,
-        Answer::Refused(r) => place_of(r),
+        Ok(()) => 0,
+        Err(r) => r.place(),
     }
 }
 
@@ -88,18 +105,18 @@ pub fn answer_of(n: usize, p: usize) -> Answer
 {
     let k = (p % 0x1_0000_0000) as u32;
     match n {
-        0 => Answer::Done,
-        1 => Answer::Refused(Refusal::SourceLong),
-        2 => Answer::Refused(Refusal::SourceIll(BytePos(k))),
-        3 => Answer::Refused(Refusal::TreeBad(RecordNo(k))),
-        4 => Answer::Refused(Refusal::NoRoom(p)),
-        5 => Answer::Refused(Refusal::QueueFull(RecordNo(k))),
-        6 => Answer::Refused(Refusal::IndentOut(k)),
-        7 => Answer::Refused(Refusal::TreeDeep(RecordNo(k))),
-        8 => Answer::Refused(Refusal::WrongKind(RecordNo(k))),
-        9 => Answer::Refused(Refusal::NoRule(RecordNo(k))),
-        10 => Answer::Refused(Refusal::Finished(p)),
-        11 => Answer::Refused(Refusal::NoNode(RecordNo(k))),
-        _ => Answer::Refused(Refusal::BadCall(p)),
+        0 => Ok(()),
+        1 => Err(Refusal::SourceLong),
+        2 => Err(Refusal::SourceIll(BytePos(k))),
+        3 => Err(Refusal::TreeBad(RecordNo(k))),
+        4 => Err(Refusal::NoRoom(p)),
+        5 => Err(Refusal::QueueFull(RecordNo(k))),
+        6 => Err(Refusal::IndentOut(k)),
+        7 => Err(Refusal::TreeDeep(RecordNo(k))),
+        8 => Err(Refusal::WrongKind(RecordNo(k))),
+        9 => Err(Refusal::NoRule(RecordNo(k))),
+        10 => Err(Refusal::Finished(p)),
+        11 => Err(Refusal::NoNode(RecordNo(k))),
+        _ => Err(Refusal::BadCall(p)),
     }
 }

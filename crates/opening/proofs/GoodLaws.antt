@@ -7,12 +7,11 @@ use native.Mathlib.Omega.{arith}
 use lib.ListN.{length, take, drop, length-append, take-append-drop}
 use lib.Seq.{take_at, drop_at, drop-nil, length-take-le}
 use borrow.Author.Tests.{le-leb, lt-leb}
-use Rattle.encoding.specs.declared.utf8.Formed.TheVariants.{Well}
-use Rattle.encoding.specs.Utf8.{formed}
+use Rattle.encoding.specs.Utf8.{Well, formed}
 use Rattle.text.proofs.Laws.{InSource, in_source_lem, is_in_source, starts_edge}
 use Rattle.tree.specs.declared.record.RecordNo.{RecordNo}
 use Rattle.tree.specs.declared.record.Record.{Record}
-use Rattle.opening.specs.declared.levels.Verdict.TheVariants.{Good}
+use Rattle.std.specs.Prelude.{Ok}
 use Rattle.tree.specs.Records.{records, start_of, end_of}
 use Rattle.opening.specs.Check.{Finding, fine, bad, deep, ◌then◌, keeps, along, level, verdict_as, checked}
 use Rattle.opening.specs.Good.{GoodRecord, GoodLevel, none, more, GoodTree}
@@ -77,17 +76,17 @@ module _ {src : List ℕ} (w : formed src ≡ Well) where
 
 -- ---- the whole list
 
-is_fine : (f : Finding) (n : ℕ) (m : RecordNo) → verdict_as f n ≡ Good m → f ≡ fine
+is_fine : (f : Finding) (n : ℕ) (m : RecordNo) → verdict_as f n ≡ Ok m → f ≡ fine
 is_fine fine n m e = refl
 is_fine (bad i) n m e = let z : ◌≡◌ {A = ℕ} 0 1 = cc in absurd (omega arith)
 is_fine (deep i) n m e = let z : ◌≡◌ {A = ℕ} 0 1 = cc in absurd (omega arith)
 
-pub tree_good : {src list : List ℕ} {n : RecordNo} → formed src ≡ Well → checked src list ≡ Good n → GoodTree src list
+pub tree_good : {src list : List ℕ} {n : RecordNo} → formed src ≡ Well → checked src list ≡ Ok n → GoodTree src list
 unfolding checked
 tree_good {src} {list} {n} w e =
     let f = is_fine (level src 64 0 0 0 (length src) (records list)) (length (records list)) n e in
     record { few = omega (arith, level_few src 64 0 0 0 (length src) (records list) f zero-le (omega arith)); levels = level_good w 64 0 0 (length src) (records list) f }
 
-pub good_tree : {src list : List ℕ} → formed src ≡ Well → GoodTree src list → checked src list ≡ Good (record { 0 = length (records list) })
+pub good_tree : {src list : List ℕ} → formed src ≡ Well → GoodTree src list → checked src list ≡ Ok (record { 0 = length (records list) })
 unfolding checked
 good_tree {src} {list} w g = ap (λ (f : Finding). verdict_as f (length (records list))) (good_level w 0 g.levels (omega (arith, g.few)))

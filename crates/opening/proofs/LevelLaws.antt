@@ -1,6 +1,6 @@
 -- A level of the check, record by record. Assumes nothing.
 use mathlib.Core.Path.{◌≡◌, refl, ◌∙◌}
-use mathlib.Core.Bool.{Bool, true, false, cond}
+use mathlib.Core.Bool.{Bool, true, false, cond, ◌&&◌}
 use mathlib.Core.List.{List, [], ◌∷◌}
 use Prim.Native.Nat.{ℕ, zero, suc, ◌+◌, ◌-◌, ◌≤◌, ◌<◌, zero-le}
 use native.Mathlib.Nat.{add-zero, add-suc, suc-add}
@@ -40,6 +40,17 @@ kept_of {src} {lo} {hi} {n} {r} e =
       within = leb-true _ _ (and_l (leb (end_of r) hi) _ h);
       inside = and_r (leb (end_of r) hi) _ h;
     }
+
+-- the five tests, one after the other
+pub keeps_by : (src : List ℕ) (lo hi n : ℕ) (r : Record) {a b c d : Bool} → a ≡ r.whole && leb r.below n → b ≡ a && leb lo (start_of r) → c ≡ b && leb (end_of r) hi → d ≡ in_source src r.span → c && d ≡ keeps src lo hi n r
+unfolding keeps
+keeps_by src lo hi n r e f g h = rw (g, f, e, h) (go r.whole (leb r.below n) (leb lo (start_of r)) (leb (end_of r) hi) (in_source src r.span))
+  where
+    go : (v w x y z : Bool) → (((v && w) && x) && y) && z ≡ v && (w && (x && (y && z)))
+    go false w x y z = refl
+    go true false x y z = refl
+    go true true false y z = refl
+    go true true true y z = refl
 
 -- ---- the first of the siblings
 

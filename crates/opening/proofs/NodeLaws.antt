@@ -1,4 +1,5 @@
 -- Good levels taken apart: the first record, the records below it, the siblings behind it. Assumes nothing.
+use Rattle.std.specs.Prelude.{Some}
 use mathlib.Core.Path.{◌≡◌, subst}
 use mathlib.Core.Logic.{⊎_elim}
 use mathlib.Core.List.{List, ◌∷◌, ◌++◌}
@@ -9,7 +10,6 @@ use lib.ListN.{length, take, drop, get_or, length-append, length-drop, get_or-ap
 use lib.Seq.{take_at, drop_at, take-take, take-append-le, drop-append-le, drop-append-add, get_or-append-add, drop-cons, drop-drop, length-take-le, take-length}
 use Rattle.tree.specs.declared.record.Record.{Record}
 use Rattle.tree.specs.declared.cursor.Cursor.{Cursor}
-use Rattle.tree.specs.declared.cursor.Found.TheVariants.{At}
 use Rattle.tree.specs.Records.{cut_record, start_of, end_of}
 use Rattle.opening.specs.Good.{GoodRecord, GoodLevel, none, more}
 use Rattle.tree.specs.Table.{node_of}
@@ -155,7 +155,7 @@ module _ {src : List ℕ} {rs : List Record} {d lo hi : ℕ} {c : Cursor} (v : L
       }
 
 -- what a cursor over a good level finds further on, it finds from the first record on
-pub step_on : {src : List ℕ} {rs : List Record} {d lo hi k : ℕ} {c : Cursor} (s : StepAt src rs d lo hi c c.at.0) → StepAt src rs d (end_of (node_of rs c.at.0)) hi (taken_as rs c (At c.at)).rest k → StepAt src rs d lo hi c k
+pub step_on : {src : List ℕ} {rs : List Record} {d lo hi k : ℕ} {c : Cursor} (s : StepAt src rs d lo hi c c.at.0) → StepAt src rs d (end_of (node_of rs c.at.0)) hi (taken_as rs c (Some c.at)).rest k → StepAt src rs d lo hi c k
 step_on {src} {rs} {d} {lo} {hi} {k} {c} s t = record {
   some = t.some;
   from = omega (arith, t.from, s.node.last);

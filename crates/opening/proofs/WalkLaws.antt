@@ -10,13 +10,11 @@ use lib.Dec.{leb, ltb}
 use lib.ListN.{length, take, drop, get_or, length-drop}
 use lib.Seq.{drop-drop, get_or-drop, length-take-le, take-length}
 use borrow.Author.Tests.{leb-false, lt-leb, le-leb}
-use Rattle.tree.specs.declared.record.RecordNo.{RecordNo}
 use Rattle.tree.specs.declared.record.Record.{Record}
 use Rattle.opening.specs.declared.levels.Part.{Part}
-use Rattle.opening.specs.declared.levels.Next.{Next}
-use Rattle.opening.specs.declared.levels.Next.TheVariants as next
-use Rattle.opening.specs.declared.levels.Walked.{Walked}
-use Rattle.opening.specs.declared.levels.Walked.TheVariants as walked
+use Rattle.std.specs.Prelude.{Result, Ok, Err}
+use Rattle.opening.specs.declared.levels.Fault.{Fault}
+use Rattle.opening.specs.declared.levels.Fault.TheVariants.{Bad, Deep}
 use Rattle.tree.specs.Records.{four, body_of, cut_record, record_of, records_from, records, start_of, end_of}
 use Rattle.opening.specs.Check.{Finding, bad, ◌then◌, keeps, along, level, verdict_as, checked}
 use Rattle.opening.specs.Walk.{head_of, next_of, inside_of, behind_of, Holds, records_of, finding_of, Walk}
@@ -37,7 +35,7 @@ pub record Going (src list : List ℕ) (all : Part) (hi d : ℕ) (p : Part) : Ty
 pub begin : {src list : List ℕ} {all : Part} {hi d : ℕ} → Holds list all → Going src list all hi d all
 begin h = record { holds = h; says = refl; ends = refl }
 
-pub done : {src list : List ℕ} {all : Part} {hi d : ℕ} {p : Part} → Going src list all hi d p → p.left.0 ≤ 0 → Walk src list all hi d (walked.Good p.at)
+pub done : {src list : List ℕ} {all : Part} {hi d : ℕ} {p : Part} → Going src list all hi d p → p.left.0 ≤ 0 → Walk src list all hi d (Ok p.at)
 done {src} {list} {all} {hi} {d} {p} v z = record {
   says = sym (ap (λ (k : ℕ). level src d 0 p.first.0 p.from.0 hi (take k (records (drop p.at list)))) none ∙ level_none src d 0 p.first.0 p.from.0 hi) ∙ v.says;
   ends = λ e q. last e (cc);
@@ -49,26 +47,30 @@ done {src} {list} {all} {hi} {d} {p} v z = record {
     last : (e : ℕ) → p.at ≡ e → (e ≤ length list) × (records (drop e list) ≡ drop all.left.0 (records (drop all.at list)))
     last e q = rw (← q) (v.holds.within, sym (ap (λ (k : ℕ). drop k (records (drop p.at list))) none) ∙ v.ends)
 
-abbrev is_good : Walked → Type 0
-is_good (walked.Good e) = Unit {0}
-is_good (walked.Bad i) = ⊥
-is_good (walked.Deep i) = ⊥
+abbrev is_good : Result ℕ Fault → Type 0
+is_good (Ok e) = Unit {0}
+is_good (Err e) = ⊥
 
-refused : {src list : List ℕ} {all : Part} {hi d : ℕ} {w : Walked} → finding_of w ≡ level_of src list hi d all → (is_good w → ⊥) → Walk src list all hi d w
-refused s never = record { says = s; ends = λ e q. absurd (never (subst is_good (sym q) tt)) }
+refused : {src list : List ℕ} {all : Part} {hi d : ℕ} (f : Fault) → finding_of (Err f) ≡ level_of src list hi d all → Walk src list all hi d (Err f)
+refused f s = record { says = s; ends = λ e q. absurd (subst is_good (sym q) tt) }
+
+-- nothing is found behind what is refused
+stops : (f : Fault) (g : Finding) → (finding_of (Err f) then g) ≡ finding_of (Err f)
+stops (Bad i) g = refl
+stops (Deep i) g = refl
 
 -- ---- the first record of a part: what `look` says of it
 
 module _ (src list : List ℕ) (hi : ℕ) (p : Part) where
-  pub look_many : 8192 ≤ p.first.0 → next.Bad (record { 0 = 8192 }) ≡ next_of src list p hi
+  pub look_many : 8192 ≤ p.first.0 → Err (Bad (record { 0 = 8192 })) ≡ next_of src list p hi
   unfolding next_of
   look_many h = sym (rw (le-leb 8192 p.first.0 h))
 
-  pub look_kept : {r : Record} → p.first.0 < 8192 → r ≡ head_of list p → true ≡ keeps src p.from.0 hi (p.left.0 - 1) r → next.Keeps r ≡ next_of src list p hi
+  pub look_kept : {r : Record} → p.first.0 < 8192 → r ≡ head_of list p → true ≡ keeps src p.from.0 hi (p.left.0 - 1) r → Ok r ≡ next_of src list p hi
   unfolding next_of
   look_kept h e k = sym (rw (lt-leb 8192 p.first.0 h, ← e, ← k))
 
-  pub look_bad : {r : Record} → p.first.0 < 8192 → r ≡ head_of list p → false ≡ keeps src p.from.0 hi (p.left.0 - 1) r → next.Bad p.first ≡ next_of src list p hi
+  pub look_bad : {r : Record} → p.first.0 < 8192 → r ≡ head_of list p → false ≡ keeps src p.from.0 hi (p.left.0 - 1) r → Err (Bad p.first) ≡ next_of src list p hi
   unfolding next_of
   look_bad h e k = sym (rw (lt-leb 8192 p.first.0 h, ← e, ← k))
 
@@ -80,11 +82,11 @@ pub record Meets (src list : List ℕ) (all : Part) (hi d : ℕ) (p : Part) (r :
   pub read : r ≡ head_of list p
   pub kept : keeps src p.from.0 hi (p.left.0 - 1) r ≡ true
 
-pub meets : {src list : List ℕ} {all : Part} {hi d : ℕ} {p : Part} {n : Next} {r : Record} → Going src list all hi d p → 0 < p.left.0 → n ≡ next_of src list p hi → n ≡ next.Keeps r → Meets src list all hi d p r
+pub meets : {src list : List ℕ} {all : Part} {hi d : ℕ} {p : Part} {n : Result Record Fault} {r : Record} → Going src list all hi d p → 0 < p.left.0 → n ≡ next_of src list p hi → n ≡ Ok r → Meets src list all hi d p r
 unfolding next_of
 meets {src} {list} {all} {hi} {d} {p} {n} {r} v some e f = go (leb 8192 p.first.0) (keeps src p.from.0 hi (p.left.0 - 1) (head_of list p)) refl refl (sym f ∙ e)
   where
-    go : (t u : Bool) → leb 8192 p.first.0 ≡ t → keeps src p.from.0 hi (p.left.0 - 1) (head_of list p) ≡ u → next.Keeps r ≡ cond t (next.Bad (record { 0 = 8192 })) (cond u (next.Keeps (head_of list p)) (next.Bad p.first)) → Meets src list all hi d p r
+    go : (t u : Bool) → leb 8192 p.first.0 ≡ t → keeps src p.from.0 hi (p.left.0 - 1) (head_of list p) ≡ u → ◌≡◌ {A = Result Record Fault} (Ok r) (cond t (Err (Bad (record { 0 = 8192 }))) (cond u (Ok (head_of list p)) (Err (Bad p.first)))) → Meets src list all hi d p r
     go true u a b g = let z : ◌≡◌ {A = ℕ} 0 1 = cc in absurd (omega arith)
     go false false a b g = let z : ◌≡◌ {A = ℕ} 0 1 = cc in absurd (omega arith)
     go false true a b g = let q : r ≡ head_of list p = cc in record { going = v; some = some; few = leb-false 8192 p.first.0 a; read = q; kept = rw q b }
@@ -115,14 +117,14 @@ module _ {src list : List ℕ} {all : Part} {hi d : ℕ} {p : Part} (v : Going s
   unfolding others
   first_turn r read = ap (λ (l : List Record). level src d 0 p.first.0 p.from.0 hi (take p.left.0 l)) (first_split r read) ∙ turn src d p.first.0 p.from.0 hi p.left.0 r (later r) some (rest r read)
 
-  pub bad_one : {n : Next} {i : RecordNo} → n ≡ next_of src list p hi → n ≡ next.Bad i → Walk src list all hi d (walked.Bad i)
+  pub bad_one : {n : Result Record Fault} {e : Fault} → n ≡ next_of src list p hi → n ≡ Err e → Walk src list all hi d (Err e)
   unfolding next_of
-  bad_one {n} {i} e f = refused (go (leb 8192 p.first.0) (keeps src p.from.0 hi (p.left.0 - 1) (head_of list p)) _ (sym f ∙ e) (first_turn (head_of list p) refl) ∙ v.says) (λ x. x)
+  bad_one {n} {e} q f = refused e (go (leb 8192 p.first.0) (keeps src p.from.0 hi (p.left.0 - 1) (head_of list p)) _ (sym f ∙ q) (first_turn (head_of list p) refl) ∙ v.says)
     where
-      go : (t u : Bool) (g : Finding) → next.Bad i ≡ cond t (next.Bad (record { 0 = 8192 })) (cond u (next.Keeps (head_of list p)) (next.Bad p.first)) → level_of src list hi d p ≡ cond t (bad 8192) (cond u g (bad p.first.0)) → bad i.0 ≡ level_of src list hi d p
-      go true u g q s = sym (s ∙ ap (λ (k : RecordNo). bad k.0) {x = record { 0 = 8192 }} {y = i} (cc))
+      go : (t u : Bool) (g : Finding) → ◌≡◌ {A = Result Record Fault} (Err e) (cond t (Err (Bad (record { 0 = 8192 }))) (cond u (Ok (head_of list p)) (Err (Bad p.first)))) → level_of src list hi d p ≡ cond t (bad 8192) (cond u g (bad p.first.0)) → finding_of (Err e) ≡ level_of src list hi d p
+      go true u g q s = sym (s ∙ ap (λ (k : Fault). finding_of (Err k)) {x = Bad (record { 0 = 8192 })} {y = e} (cc))
       go false true g q s = let z : ◌≡◌ {A = ℕ} 0 1 = cc in absurd (omega arith)
-      go false false g q s = sym (s ∙ ap (λ (k : RecordNo). bad k.0) {x = p.first} {y = i} (cc))
+      go false false g q s = sym (s ∙ ap (λ (k : Fault). finding_of (Err k)) {x = Bad p.first} {y = e} (cc))
 
 module _ {src list : List ℕ} {all : Part} {hi d : ℕ} {p : Part} {r : Record} (m : Meets src list all hi d p r) where
   rules : Kept src p.from.0 hi (p.left.0 - 1) r
@@ -139,8 +141,8 @@ module _ {src list : List ℕ} {all : Part} {hi d : ℕ} {p : Part} {r : Record}
   unfolding behind_it
   kept_turn = rw (lt-leb 8192 p.first.0 m.few, m.kept) at (first_turn m.going m.some r m.read)
 
-  pub too_deep : d ≡ 0 → Walk src list all hi d (walked.Deep p.first)
-  too_deep z = refused (sym (rw (under_zero src d p.first.0 r (take (p.left.0 - 1) behind_it) z) at kept_turn) ∙ m.going.says) (λ x. x)
+  pub too_deep : d ≡ 0 → Walk src list all hi d (Err (Deep p.first))
+  too_deep z = refused (Deep p.first) (sym (rw (under_zero src d p.first.0 r (take (p.left.0 - 1) behind_it) z) at kept_turn) ∙ m.going.says)
 
   pub inside_holds : {q : Part} → q ≡ inside_of p r → Holds list q
   unfolding behind_it later
@@ -151,14 +153,14 @@ module _ {src list : List ℕ} {all : Part} {hi d : ℕ} {p : Part} {r : Record}
   })
 
   -- where nothing lies below it, there is nothing to go into
-  pub none_below : {q : Part} → q ≡ inside_of p r → q.left.0 ≡ 0 → Walk src list q (end_of r) (d - 1) (walked.Good q.at)
+  pub none_below : {q : Part} → q ≡ inside_of p r → q.left.0 ≡ 0 → Walk src list q (end_of r) (d - 1) (Ok q.at)
   none_below e z = done (begin (inside_holds e)) (omega arith)
 
   pub inside_asks : length list < 2 ^ 64 → (p.at + 1 + body_of r.kind < 2 ^ 64) × (p.first.0 < 8192)
   inside_asks h = (omega (arith, (inside_holds refl).within), m.few)
 
   -- the recursive call's answer on what lies below it
-  module _ (deeper : d ≡ 0 → ⊥) {q : Part} (inner : q ≡ inside_of p r) {w : Walked} (walk : Walk src list q (end_of r) (d - 1) w) where
+  module _ (deeper : d ≡ 0 → ⊥) {q : Part} (inner : q ≡ inside_of p r) {w : Result ℕ Fault} (walk : Walk src list q (end_of r) (d - 1) w) where
     below : finding_of w ≡ level src (d - 1) 0 (p.first.0 + 1) (start_of r) (end_of r) (take r.below behind_it)
     unfolding behind_it later
     below = walk.says ∙ ap (level_of src list (end_of r) (d - 1)) inner
@@ -166,22 +168,19 @@ module _ {src list : List ℕ} {all : Part} {hi d : ℕ} {p : Part} {r : Record}
     turned : level_of src list hi d p ≡ (finding_of w then others m.going m.some r)
     turned = kept_turn ∙ ap (λ (x : Finding). x then others m.going m.some r) (under_is src d p.first.0 (p.left.0 - 1) r behind_it deeper rules.fewer ∙ sym below)
 
-    pub bad_below : {i : RecordNo} → w ≡ walked.Bad i → Walk src list all hi d (walked.Bad i)
-    bad_below e = refused (sym (rw e at turned) ∙ m.going.says) (λ x. x)
+    pub refused_below : {f : Fault} → w ≡ Err f → Walk src list all hi d (Err f)
+    refused_below {f} e = refused f (sym (turned ∙ ap (λ (x : Result ℕ Fault). finding_of x then others m.going m.some r) e ∙ stops f _) ∙ m.going.says)
 
-    pub deep_below : {i : RecordNo} → w ≡ walked.Deep i → Walk src list all hi d (walked.Deep i)
-    deep_below e = refused (sym (rw e at turned) ∙ m.going.says) (λ x. x)
-
-    pub behind_asks : {e : ℕ} → w ≡ walked.Good e → (1 + r.below ≤ p.left.0) × (p.first.0 + 1 + r.below ≤ 8192)
+    pub behind_asks : {e : ℕ} → w ≡ Ok e → (1 + r.below ≤ p.left.0) × (p.first.0 + 1 + r.below ≤ 8192)
     behind_asks f =
         let few = level_few src (d - 1) 0 (p.first.0 + 1) (start_of r) (end_of r) (take r.below behind_it) (sym below ∙ ap finding_of f) zero-le (omega (arith, m.few)) in
         let size = length-take-le r.below behind_it (omega (arith, rules.fewer, enough)) in
         (omega (arith, rules.fewer, m.some), omega (arith, few, size))
 
-    pub less : {e : ℕ} {t : Part} → w ≡ walked.Good e → t ≡ behind_of p r e → t.left.0 < p.left.0
+    pub less : {e : ℕ} {t : Part} → w ≡ Ok e → t ≡ behind_of p r e → t.left.0 < p.left.0
     less f g = omega (arith, behind_asks f, ap (λ (x : Part). x.left.0) g)
 
-    pub goes_on : {e : ℕ} {t : Part} → w ≡ walked.Good e → t ≡ behind_of p r e → Going src list all hi d t
+    pub goes_on : {e : ℕ} {t : Part} → w ≡ Ok e → t ≡ behind_of p r e → Going src list all hi d t
     unfolding behind_it later others
     goes_on {e} f g = rw g (record {
       holds = record { within = end.0; enough = rw (after, length-drop) (omega (arith, rules.fewer, enough)); small = (behind_asks f).1 };
@@ -232,13 +231,17 @@ along_cut src under zero zero i lo n (b ∷ bs) h = rw (
   along_cut src under (body_of b) (record_of b bs).below (suc i) (end_of (record_of b bs)) n bs (λ x. h (suc x)),
 )
 
+fault_as : (f : Fault) (n : ℕ) → verdict_as (finding_of (Err f)) n ≡ Err f
+fault_as (Bad i) n = refl
+fault_as (Deep i) n = refl
+
 abbrev pub whole_part : ℕ → Part
 whole_part n = record { at = 0; first = record { 0 = 0 }; left = record { 0 = n }; from = record { 0 = 0 } }
 
 pub whole_holds : {list : List ℕ} {n : ℕ} → n ≡ length (records list) → Holds list (whole_part n)
 whole_holds e = record { within = omega arith; enough = omega arith; small = omega arith }
 
-module _ {src list : List ℕ} {n : ℕ} {w : Walked} (all : n ≡ length (records list)) (bytes : (i : ℕ) → get_or list i 0 < 256) {hi : ℕ} (end : hi ≡ min 4294967295 (length src)) (walk : Walk src list (whole_part n) hi 64 w) where
+module _ {src list : List ℕ} {n : ℕ} {w : Result ℕ Fault} (all : n ≡ length (records list)) (bytes : (i : ℕ) → get_or list i 0 < 256) {hi : ℕ} (end : hi ≡ min 4294967295 (length src)) (walk : Walk src list (whole_part n) hi 64 w) where
   whole_level : finding_of w ≡ level src 64 0 0 0 (length src) (records list)
   unfolding level
   whole_level =
@@ -246,9 +249,13 @@ module _ {src list : List ℕ} {n : ℕ} {w : Walked} (all : n ≡ length (recor
       ∙ ap₂ (level src 64 0 0 0) end (ap (λ (k : ℕ). take k (records list)) all ∙ take-length (records list))
       ∙ along_cut src _ 0 0 0 0 (length src) list bytes
 
-  pub answers : {w' : Walked} → w ≡ w' → verdict_as (finding_of w') n ≡ checked src list
+  pub counts : {e : ℕ} → w ≡ Ok e → Ok (record { 0 = n }) ≡ checked src list
   unfolding checked
-  answers e = ap₂ verdict_as (ap finding_of (sym e) ∙ whole_level) all
+  counts e = ap₂ verdict_as (ap finding_of (sym e) ∙ whole_level) all
 
-  pub not_many : {e : ℕ} → w ≡ walked.Good e → n ≤ 8192
+  pub refuses : {f : Fault} → w ≡ Err f → Err f ≡ checked src list
+  unfolding checked
+  refuses {f} e = sym (fault_as f n) ∙ ap₂ verdict_as (ap finding_of (sym e) ∙ whole_level) all
+
+  pub not_many : {e : ℕ} → w ≡ Ok e → n ≤ 8192
   not_many g = omega (arith, level_few src 64 0 0 0 (length src) (records list) (sym whole_level ∙ ap finding_of g) zero-le (omega arith))

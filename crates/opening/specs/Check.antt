@@ -1,9 +1,10 @@
 -- The check of a tree, computed: records in order, level by level, 3 before 7 in each. Assumes nothing.
-use Rattle.std.specs.Prelude.{ℕ, zero, suc, Bool, cond, ◌&&◌, List, [], ◌∷◌, length, take, leb}
+use Rattle.std.specs.Prelude.{ℕ, zero, suc, Bool, cond, ◌&&◌, List, [], ◌∷◌, length, take, leb, Result, Ok, Err}
 use Rattle.text.specs.Chars.{in_source}
 use Rattle.tree.specs.declared.record.Record.{Record}
-use Rattle.opening.specs.declared.levels.Verdict.{Verdict}
-use Rattle.opening.specs.declared.levels.Verdict.TheVariants.{Good, Bad, Deep}
+use Rattle.tree.specs.declared.record.RecordNo.{RecordNo}
+use Rattle.opening.specs.declared.levels.Fault.{Fault}
+use Rattle.opening.specs.declared.levels.Fault.TheVariants.{Bad, Deep}
 use Rattle.tree.specs.Records.{start_of, end_of, records}
 
 -- what is found: nothing wrong, the first record that breaks a rule, or the first that keeps them all and stands too deep
@@ -37,10 +38,14 @@ unfoldable pub level : List ℕ → ℕ → ℕ → ℕ → ℕ → ℕ → List
 level src zero = along src (λ i r rs. deep i)
 level src (suc d) = along src (λ i r rs. level src d 0 (suc i) (start_of r) (end_of r) (take r.below rs))
 
+-- a good tree with so many records, or why it is refused
+abbrev pub Verdict : Type 0
+Verdict = Result RecordNo Fault
+
 abbrev pub verdict_as : Finding → ℕ → Verdict
-verdict_as fine n = Good (record { 0 = n })
-verdict_as (bad i) n = Bad (record { 0 = i })
-verdict_as (deep i) n = Deep (record { 0 = i })
+verdict_as fine n = Ok (record { 0 = n })
+verdict_as (bad i) n = Err (Bad (record { 0 = i }))
+verdict_as (deep i) n = Err (Deep (record { 0 = i }))
 
 -- the whole list: 64 levels, the top level among them
 unfoldable pub checked : List ℕ → List ℕ → Verdict
@@ -48,11 +53,11 @@ checked src list = verdict_as (level src 64 0 0 0 (length src) (records list)) (
 
 -- document 01's number of the refusal, 0 where there is none, and its place
 abbrev pub number_of : Verdict → ℕ
-number_of (Good n) = 0
-number_of (Bad i) = 3
-number_of (Deep i) = 7
+number_of (Ok n) = 0
+number_of (Err (Bad i)) = 3
+number_of (Err (Deep i)) = 7
 
 abbrev pub place_of : Verdict → ℕ
-place_of (Good n) = 0
-place_of (Bad i) = i.0
-place_of (Deep i) = i.0
+place_of (Ok n) = 0
+place_of (Err (Bad i)) = i.0
+place_of (Err (Deep i)) = i.0

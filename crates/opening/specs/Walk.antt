@@ -1,12 +1,10 @@
 -- How the check's code walks a level, for the functions that make it up. Assumes nothing.
-use Rattle.std.specs.Prelude.{◌≡◌, ℕ, ◌+◌, ◌-◌, ◌≤◌, ◌<◌, cond, List, length, take, drop, get_or, leb}
+use Rattle.std.specs.Prelude.{◌≡◌, ℕ, ◌+◌, ◌-◌, ◌≤◌, ◌<◌, cond, List, length, take, drop, get_or, leb, Result, Ok, Err}
 use Rattle.tree.specs.declared.record.Record.{Record}
 use Rattle.opening.specs.declared.levels.Part.{Part}
 use Rattle.opening.specs.declared.levels.Leaves.{Leaves}
-use Rattle.opening.specs.declared.levels.Next.{Next}
-use Rattle.opening.specs.declared.levels.Next.TheVariants as next
-use Rattle.opening.specs.declared.levels.Walked.{Walked}
-use Rattle.opening.specs.declared.levels.Walked.TheVariants as walked
+use Rattle.opening.specs.declared.levels.Fault.{Fault}
+use Rattle.opening.specs.declared.levels.Fault.TheVariants.{Bad, Deep}
 use Rattle.tree.specs.Records.{body_of, record_at, records}
 use Rattle.opening.specs.Check.{Finding, fine, bad, deep, keeps, level}
 
@@ -20,10 +18,10 @@ pub record PastLeaves (list : List ℕ) (i : ℕ) (r : Leaves) : Type 0 where
 abbrev pub head_of : List ℕ → Part → Record
 head_of list p = record_at (drop p.at list)
 
-unfoldable pub next_of : List ℕ → List ℕ → Part → ℕ → Next
+unfoldable pub next_of : List ℕ → List ℕ → Part → ℕ → Result Record Fault
 next_of src list p hi =
-    cond (leb 8192 p.first.0) (next.Bad (record { 0 = 8192 }))
-    (cond (keeps src p.from.0 hi (p.left.0 - 1) (head_of list p)) (next.Keeps (head_of list p)) (next.Bad p.first))
+    cond (leb 8192 p.first.0) (Err (Bad (record { 0 = 8192 })))
+    (cond (keeps src p.from.0 hi (p.left.0 - 1) (head_of list p)) (Ok (head_of list p)) (Err (Bad p.first)))
 
 abbrev pub inside_of : Part → Record → Part
 inside_of p r = record { at = p.at + 1 + body_of r.kind; first = record { 0 = p.first.0 + 1 }; left = record { 0 = r.below }; from = r.span.start }
@@ -41,12 +39,12 @@ pub record Holds (list : List ℕ) (p : Part) : Type 0 where
 abbrev pub records_of : List ℕ → Part → List Record
 records_of list p = take p.left.0 (records (drop p.at list))
 
-abbrev pub finding_of : Walked → Finding
-finding_of (walked.Good at) = fine
-finding_of (walked.Bad i) = bad i.0
-finding_of (walked.Deep i) = deep i.0
+abbrev pub finding_of : Result ℕ Fault → Finding
+finding_of (Ok at) = fine
+finding_of (Err (Bad i)) = bad i.0
+finding_of (Err (Deep i)) = deep i.0
 
 -- of a walk over a part: what the level finds, and where it is good the byte behind
-pub record Walk (src list : List ℕ) (p : Part) (hi d : ℕ) (w : Walked) : Type 0 where
+pub record Walk (src list : List ℕ) (p : Part) (hi d : ℕ) (w : Result ℕ Fault) : Type 0 where
   pub says : finding_of w ≡ level src d 0 p.first.0 p.from.0 hi (records_of list p)
-  pub ends : (at : ℕ) → w ≡ walked.Good at → (at ≤ length list) × (records (drop at list) ≡ drop p.left.0 (records (drop p.at list)))
+  pub ends : (at : ℕ) → w ≡ Ok at → (at ≤ length list) × (records (drop at list) ≡ drop p.left.0 (records (drop p.at list)))

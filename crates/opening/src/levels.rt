@@ -8,10 +8,9 @@ use text::chars::in_source;
 use text::span::BytePos;
 use tree::record::{Record, RecordNo, body, record_at};
 
-// A good tree with so many records, the first record that breaks a rule, or the first that stands too deep.
+// Why a tree is refused: the first record that breaks a rule, or the first that stands too deep.
 #[derive(Clone, Copy)]
-pub enum Verdict {
-    Good(RecordNo),
+pub enum Fault {
     Bad(RecordNo),
     Deep(RecordNo),
 }
@@ -30,13 +29,6 @@ struct Part {
     from: BytePos,
 }
 
-// What the first record of a part is.
-#[derive(Clone, Copy)]
-enum Next {
-    Keeps(Record),
-    Bad(RecordNo),
-}
-
 // So many leaves, and the byte behind them.
 #[derive(Clone, Copy)]
 struct Leaves {
@@ -44,31 +36,21 @@ struct Leaves {
     at: usize,
 }
 
-// What a level's walk finds: the byte behind it, or a refusal's record.
-#[derive(Clone, Copy)]
-enum Walked {
-    Good(usize),
-    Bad(RecordNo),
-    Deep(RecordNo),
-}
-
 // Past the leaves that stand side by side from a byte on, a cut last one with them: a step of nine bytes each, whatever the last one was.
+// The loop counts by hand: the step is not one.
 fn past_leaves(list: &[u8], from: usize) -> Leaves
     ensures { PastLeaves list.now from result }
 {
     let mut n: usize = 0;
     let mut at = from;
-    while at < list.len() {
-        if 0x80 <= list[at] {
-            return Leaves { n: Records(n), at };
-        }
+    while at < list.len() && list[at] < 0x80 {
         n += 1;
         at += 9;
     }
     Leaves { n: Records(n), at }
 }
 
-// How many records the list has, a cut last one with it.
+// How many records the list has, a cut last one with it. A step is a run of leaves and a composite, so no `for` fits.
 fn count(list: &[u8]) -> Records
     ensures { result.0 ≡ length (records list.now) }
 {
@@ -90,36 +72,27 @@ fn count(list: &[u8]) -> Records
 fn keeps_rules(src: &[u8], r: Record, lo: BytePos, hi: BytePos, n: Records) -> bool
     ensures { result ≡ keeps src.now lo.0 hi.0 n.0 r }
 {
-    let below = r.below as usize;
-    let start = r.span.start.0;
-    let end = r.span.end.0;
-    let whole = r.whole;
-    if whole {
-        if below <= n.0 {
-            if lo.0 <= start {
-                if end <= hi.0 {
-                    return in_source(src, r.span);
-                }
-            }
-        }
-    }
-    false
+    r.whole
+        && r.below as usize <= n.0
+        && lo.0 <= r.span.start.0
+        && r.span.end.0 <= hi.0
+        && in_source(src, r.span)
 }
 
 // The first record of a part that has one: too many records, a broken rule, or neither.
-fn look(src: &[u8], list: &[u8], part: Part, hi: BytePos) -> Next
+fn look(src: &[u8], list: &[u8], part: Part, hi: BytePos) -> Result<Record, Fault>
     requires { 0 < part.left.0 }
     ensures { result ≡ next_of src.now list.now part hi.0 }
 {
     let first = part.first;
     if 8192 <= first.0 {
-        return Next::Bad(RecordNo(8192));
+        return Err(Fault::Bad(RecordNo(8192)));
     }
     let r = record_at(list, part.at);
     if keeps_rules(src, r, part.from, hi, Records(part.left.0 - 1)) {
-        return Next::Keeps(r);
+        return Ok(r);
     }
-    Next::Bad(first)
+    Err(Fault::Bad(first))
 }
 
 // The records below the first of a part.
@@ -151,58 +124,36 @@ fn behind(part: Part, r: Record, e: usize) -> Part
 }
 
 // Checks the siblings of a part and all below them, in a parent that ends at hi and with d levels left: a level below has one less.
-fn level(src: &[u8], list: &[u8], all: Part, hi: BytePos, d: u32) -> Walked
+// The byte behind them. A step is a record and all below it, so no `for` fits.
+fn level(src: &[u8], list: &[u8], all: Part, hi: BytePos, d: u32) -> Result<usize, Fault>
     requires { Holds list.now all }
     ensures { Walk src.now list.now all hi.0 d result }
 {
     let mut part = all;
     while 0 < part.left.0 {
-        let n = look(src, list, part, hi);
-        match n {
-            Next::Bad(i) => {
-                return Walked::Bad(i);
-            }
-            Next::Keeps(r) => {
-                if d == 0 {
-                    let first = part.first;
-                    return Walked::Deep(first);
-                }
-                let below = inside(part, r);
-                if below.left.0 == 0 {
-                    part = behind(part, r, below.at);
-                } else {
-                    let end = r.span.end;
-                    let w = level(src, list, below, end, d - 1);
-                    match w {
-                        Walked::Good(e) => {
-                            part = behind(part, r, e);
-                        }
-                        Walked::Bad(p) => {
-                            return Walked::Bad(p);
-                        }
-                        Walked::Deep(p) => {
-                            return Walked::Deep(p);
-                        }
-                    }
-                }
-            }
+        let r = look(src, list, part, hi)?;
+        if d == 0 {
+            return Err(Fault::Deep(part.first));
+        }
+        let below = inside(part, r);
+        if below.left.0 == 0 {
+            part = behind(part, r, below.at);
+        } else {
+            part = behind(part, r, level(src, list, below, r.span.end, d - 1)?);
         }
     }
-    Walked::Good(part.at)
+    Ok(part.at)
 }
 
 // Where the source ends, as far as a place can say it: no record ends behind the last place.
 fn end_of(src: &[u8]) -> BytePos
     ensures { result.0 ≡ min 4294967295 (length src.now) }
 {
-    if src.len() < 4294967295 {
-        return BytePos(src.len() as u32);
-    }
-    BytePos(4294967295)
+    BytePos(u32::try_from(src.len()).unwrap_or(u32::MAX))
 }
 
-// The check of a whole list over a source.
-pub fn check(src: &[u8], list: &[u8]) -> Verdict
+// The check of a whole list over a source: how many records it has.
+pub fn check(src: &[u8], list: &[u8]) -> Result<RecordNo, Fault>
     ensures { result ≡ checked src.now list.now }
 {
     let n = count(list);
@@ -213,10 +164,6 @@ pub fn check(src: &[u8], list: &[u8]) -> Verdict
         from: BytePos(0),
     };
     let hi = end_of(src);
-    let w = level(src, list, all, hi, 64);
-    match w {
-        Walked::Good(_) => Verdict::Good(RecordNo(n.0 as u32)),
-        Walked::Bad(p) => Verdict::Bad(p),
-        Walked::Deep(p) => Verdict::Deep(p),
-    }
+    level(src, list, all, hi, 64)?;
+    Ok(RecordNo(n.0 as u32))
 }

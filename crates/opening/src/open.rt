@@ -1,37 +1,47 @@
 // Opening: the source is checked, then the tree over it.
 ghost use Rattle.std.specs.Prelude.{◌≡◌};
-ghost use Rattle.opening.specs.Opening.{opened};
+ghost use Rattle.opening.specs.Opening.{of_unfit, of_fault, opened};
 
-use crate::levels::Verdict;
-use text::source::Checked;
+use crate::levels::Fault;
+use text::source::Unfit;
 use text::span::BytePos;
 use tree::record::RecordNo;
 
-// So many records of a good tree, or what is refused and where.
+// What is refused at opening, and where.
 #[derive(Clone, Copy)]
-pub enum Opening {
-    Good(RecordNo),
+pub enum Unopened {
     SourceLong,
     SourceIll(BytePos),
     TreeBad(RecordNo),
     TreeDeep(RecordNo),
 }
 
-// Refusals 1, 2, then 3 and 7 by records in order.
-pub fn open(source: &[u8], list: &[u8]) -> Opening
+impl From<Unfit> for Unopened {
+    ghost from_gives = { λ e u. u ≡ of_unfit e };
+
+    fn from(e: Unfit) -> Unopened {
+        match e {
+            Unfit::Long => Unopened::SourceLong,
+            Unfit::Ill(p) => Unopened::SourceIll(p),
+        }
+    }
+}
+
+impl From<Fault> for Unopened {
+    ghost from_gives = { λ e u. u ≡ of_fault e };
+
+    fn from(e: Fault) -> Unopened {
+        match e {
+            Fault::Bad(i) => Unopened::TreeBad(i),
+            Fault::Deep(i) => Unopened::TreeDeep(i),
+        }
+    }
+}
+
+// Refusals 1, 2, then 3 and 7 by records in order; of a good tree how many records it has.
+pub fn open(source: &[u8], list: &[u8]) -> Result<RecordNo, Unopened>
     ensures { result ≡ opened source.now list.now }
 {
-    let s = text::source::check(source);
-    match s {
-        Checked::Good => {
-            let t = crate::levels::check(source, list);
-            match t {
-                Verdict::Good(n) => Opening::Good(n),
-                Verdict::Bad(i) => Opening::TreeBad(i),
-                Verdict::Deep(i) => Opening::TreeDeep(i),
-            }
-        }
-        Checked::Long => Opening::SourceLong,
-        Checked::Ill(p) => Opening::SourceIll(p),
-    }
+    text::source::check(source)?;
+    Ok(crate::levels::check(source, list)?)
 }

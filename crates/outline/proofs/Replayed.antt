@@ -1,7 +1,7 @@
 -- What `lending::replayed` promises, of what the lent engine promised. Assumes nothing.
 use Rattle.text.proofs.Base.{ℕ, List}
 use Rattle.meaning.specs.World.{Result}
-use Rattle.meaning.specs.declared.answer.Answer.{Answer}
+use Rattle.meaning.specs.Answer.{Answer}
 use Rattle.entry.specs.declared.state.State as code
 use Rattle.entry.specs.declared.state.Step.{Step}
 use Rattle.entry.specs.Served.{Served}

@@ -6,17 +6,22 @@ ghost use Rattle.entry.specs.Served.{Served, record_left};
 
 use engine_mut::{Engine, record};
 use entry::state::{State, Step};
-use reader::{Reader, skip};
-use tree::cursor::{Cursor, Taken};
+use reader::Reader;
+use tree::cursor::Cursor;
+use tree::record::RecordNo;
 
-// What a reader at this place passes over, and where it then stands.
-pub fn passed(table: &[u32], c: Cursor) -> Taken
-    ensures { result ≡ child_of (tree_of table.now) c }
+// What a reader at this place passes over; the place is then the reader's.
+pub fn passed(table: &[u32], place: &mut Cursor) -> Option<RecordNo>
+    ensures found { result ≡ (child_of (tree_of table.now) place.old).found }
+    ensures rest { place.new ≡ (child_of (tree_of table.now) place.old).rest }
 {
-    let mut r = Reader { table, place: c };
-    let found = skip(&mut r);
-    let rest = r.place;
-    Taken { found, rest }
+    let mut r = Reader {
+        table,
+        place: *place,
+    };
+    let found = r.skip();
+    *place = r.place;
+    found
 }
 
 // One call record through an engine that has this state.

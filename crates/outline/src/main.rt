@@ -10,7 +10,6 @@ mod call_list;
 mod lending;
 mod lines;
 
-use meaning::answer::number;
 use std::io;
 use telling::files::{count, read};
 use tree::table::{decode, first};
@@ -18,9 +17,8 @@ use tree::table::{decode, first};
 // The outline and the layout of an opened script; else why it is refused.
 fn show(to: &impl Print, source: &[u8], tree: &[u8], file: &[u8]) -> io::Result<()> {
     let opened = entry::engine::open(source, tree);
-    let answer = opened.answer;
-    if number(answer) != 0 {
-        return call_list::refused(to, answer);
+    if let Err(r) = opened.answer {
+        return println!(to; "{r}");
     }
     let mut words = [0u32; 32768];
     let n = decode(tree, &mut words);
@@ -41,12 +39,12 @@ fn main(rt: HostRuntime) -> io::Result<()> {
     let s = read(&rt, &err, 1, &mut script)?;
     let t = read(&rt, &err, 2, &mut list)?;
     let c = read(&rt, &err, 3, &mut file)?;
-    if s.found && t.found && c.found {
+    if let (Some(s), Some(t), Some(c)) = (s, t, c) {
         show(
             &rt,
-            packed::front(&script, s.len),
-            packed::front(&list, t.len),
-            packed::front(&file, c.len),
+            packed::front(&script, s),
+            packed::front(&list, t),
+            packed::front(&file, c),
         )?;
     }
     Ok(())

@@ -1,9 +1,8 @@
 -- An answer as one number: which word its place is. Assumes nothing.
-use Rattle.std.specs.Prelude.{◌≡◌, ℕ, ◌+◌, ◌*◌, ◌%◌, ◌<◌, cond, ltb}
+use Rattle.std.specs.Prelude.{◌≡◌, ℕ, ◌+◌, ◌*◌, ◌%◌, ◌<◌, cond, ltb, Ok, Err}
 use Rattle.meaning.specs.declared.answer.Refusal.{Refusal}
 use Rattle.meaning.specs.declared.answer.Refusal.TheVariants.{SourceLong, SourceIll, TreeBad, NoRoom, QueueFull, IndentOut, TreeDeep, WrongKind, NoRule, Finished, NoNode, BadCall}
-use Rattle.meaning.specs.declared.answer.Answer.{Answer}
-use Rattle.meaning.specs.declared.answer.Answer.TheVariants.{Done, Refused}
+use Rattle.meaning.specs.Answer.{Answer}
 use Rattle.meaning.specs.Numbers.{seen}
 
 -- the place of 6: an indent over 64 was lent so, and is the lent word, which may be larger than the byte that the engine was handed
@@ -26,8 +25,8 @@ refusal_place indent (NoNode k) = k.0
 refusal_place indent (BadCall p) = p % 0x100000000
 
 abbrev pub place_word : ℕ → Answer → ℕ
-place_word indent Done = 0
-place_word indent (Refused r) = refusal_place indent r
+place_word indent (Ok tt) = 0
+place_word indent (Err r) = refusal_place indent r
 
 -- the number above the place, which fits the word below it
 pub record Packed (indent : ℕ) (a : Answer) (n : ℕ) : Type 0 where

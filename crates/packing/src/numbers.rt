@@ -1,5 +1,5 @@
 // The number and the place of an answer in one word of 64 bits.
-ghost use Rattle.std.specs.Prelude.{◌≡◌, ◌%◌};
+ghost use Rattle.std.specs.Prelude.{◌≡◌, ◌+◌, ◌*◌, ◌%◌};
 ghost use Rattle.packing.specs.Places.{indent_place, place_word, Packed};
 
 use meaning::answer::{Answer, Refusal, number};
@@ -23,8 +23,8 @@ fn place(a: Answer, indent: u32) -> u32
     ensures { result ≡ place_word indent a }
 {
     match a {
-        Answer::Done => 0,
-        Answer::Refused(r) => match r {
+        Ok(()) => 0,
+        Err(r) => match r {
             Refusal::SourceLong => 65536,
             Refusal::SourceIll(p) => p.0,
             Refusal::TreeBad(k) => k.0,
@@ -41,9 +41,16 @@ fn place(a: Answer, indent: u32) -> u32
     }
 }
 
+// A number above a place, in one word of 64 bits: C gets both so.
+pub fn above(number: u32, place: u32) -> u64
+    ensures { result ≡ number * 0x100000000 + place }
+{
+    u64::from(number) * 0x100000000 + u64::from(place)
+}
+
 // 0 for done, else the number above the place; beside the lent state's indent.
 pub fn packed(a: Answer, indent: u32) -> u64
     ensures { Packed indent a result }
 {
-    (number(a) as u64) * 0x100000000 + (place(a, indent) as u64)
+    above(number(a), place(a, indent))
 }

@@ -1,9 +1,10 @@
 -- Laws of labels and jumps: a turn takes a record, and `continue` takes no value. Assumes nothing.
+use Rattle.lent.specs.declared.formatter.Formatter.{Formatter}
 use Rattle.steps.proofs.Rules.{◌≡◌, refl, ◌∙◌, Bool, false, List, [], ◌∷◌, ℕ, ne_eqb, Record, Kind, byte_of, Ws, make, Stream, next_in}
 use Rattle.steps.proofs.Rules.{next_is, ◌▸◌, call, write, pump, is, put_remaining, Falls, pump_takes, put_leaves, plain_leaves, plain_takes, ◌takes_then◌}
 use Rattle.steps.proofs.Rules.{◌leaves_then◌, taking_falls, RecordNo, take_if, take_any, true, ◌||◌, sym, arith, Script, Engine, Goes, ◌▹◌, done, starts, eaten_not}
+use Rattle.std.proofs.lemmas.Option.{none-some}
 use Rattle.walk.proofs.StreamLaws.{took_not}
-use Rattle.walk.specs.Stream.{no}
 use Rattle.paths.specs.Attribute.{modifiers}
 use Rattle.patterns.specs.Pattern.{pat_attributes}
 use Rattle.parts.specs.Labels.{preceded, before_expr, expr_labels}
@@ -45,7 +46,7 @@ pub not_preceded : {x : Script} {e : Engine} (rs : List Record) (s : Stream) {t 
 unfolding preceded before_expr pat_attributes modifiers expr_labels
 not_preceded rs s q h =
     let n = none_of (next_is (is rs Kind.Attribute) s) (next_is (is rs Kind.Modifiers) s) (next_is (is rs Kind.Label) s) (sym q ∙ h) in
-    done (sym n.0) refl starts ▹ eaten_not rs (byte_of Kind.Modifiers) _ {k = no 8192} (took_not (is rs Kind.Modifiers) s refl n.1 (omega arith)) refl refl ▹ done (sym n.2) refl starts
+    done (sym n.0) refl starts ▹ eaten_not rs (byte_of Kind.Modifiers) _ (took_not (is rs Kind.Modifiers) s refl n.1) none-some ▹ done (sym n.2) refl starts
 
 -- ---- whether a value stands behind a closure's arguments or a jump's word
 
@@ -68,7 +69,7 @@ module _ (rs : List Record) (s : Stream) {kind : ℕ} where
 
 -- ---- what stands in front of `=>`
 
-module _ (rs : List Record) {kind : ℕ} {s s' : Stream} {w w' : List ℕ} {k : RecordNo} where
+module _ (rs : List Record) {kind : ℕ} {s s' : Stream} {w w' : Formatter} {k : RecordNo} where
   pub guard_expr : kind ≡ byte_of Kind.If → Got (take_if (is_expr rs) s) s w w' k s' → Got (take_if (is_guard rs kind) s) s w w' k s'
   unfolding is_guard
   guard_expr h g = rw (eq-eqb _ _ h) g

@@ -9,16 +9,16 @@ ghost use Rattle.parts.specs.Args.{default_or_pat, case_pat, arm_pat, guard_kind
 
 use crate::spaced::{between, word};
 use calls::{comments, lit, nl};
-use kinds::bytes;
+use kinds::{Kind, bytes};
 use lent::formatter::Formatter;
 use lent::ring::Queue;
 use meaning::call::{Hint, Literal};
 use patterns::fn_args::fn_args;
 use patterns::pat::pat;
 use steps::items::{before_item, behind_item, close_list};
-use steps::remaining::fresh;
+use steps::remaining::Remaining;
 use tree::record::RecordNo;
-use walk::stream::{Stream, expect, left_over, next_is, pump, records_of};
+use walk::stream::{Stream, records_of};
 use walk::tokens::{any, token};
 
 // The pattern that must stand next.
@@ -32,7 +32,7 @@ fn next_pat(
 )
     ensures { Walked src table fmt queue out p (expect (tree table) Kind.Pat (pat (tree table) 64)) }
 {
-    let k = expect(table, fmt, p, bytes::PAT);
+    let k = p.expect(table, fmt, Kind::Pat);
     pat(src, table, fmt, queue, out, k, 64);
 }
 
@@ -47,8 +47,8 @@ fn default_or_pat(
 )
     ensures { Walked src table fmt queue out p (default_or_pat (tree table)) }
 {
-    if next_is(table, p, bytes::KW_DEFAULT) {
-        token(src, table, fmt, queue, out, p, bytes::KW_DEFAULT);
+    if p.next_is(table, Kind::Default) {
+        token(src, table, fmt, queue, out, p, Kind::Default);
         return;
     }
     next_pat(src, table, fmt, queue, out, p);
@@ -90,13 +90,11 @@ pub fn arm_pat(
 }
 
 // The token between an arm's pattern and its value or guard.
+#[tactic(auto, unfolding(kinds::specs::Facts::byte_of, kinds::specs::Facts::facts_of))]
 pub fn guard_kind(in_match: bool) -> u8
     ensures { result ≡ guard_kind in_match }
 {
-    if in_match {
-        return bytes::KW_IF;
-    }
-    bytes::EQ
+    if in_match { bytes::KW_IF } else { bytes::EQ }
 }
 
 // `||` or `|a, b|`.
@@ -111,22 +109,22 @@ fn bars(
     ensures { Made src table fmt queue out (parse (tree table) (barred (tree table)) k) }
 {
     let mut p = records_of(table, k);
-    if next_is(table, &p, bytes::PIPEPIPE) {
+    if p.next_is(table, Kind::PipePipe) {
         any(src, table, fmt, queue, out, &mut p);
-        left_over(table, fmt, &p);
+        p.left_over(table, fmt);
         return;
     }
-    token(src, table, fmt, queue, out, &mut p, bytes::PIPE);
-    let mut comma = fresh();
-    while next_is(table, &p, bytes::PAT) {
+    token(src, table, fmt, queue, out, &mut p, Kind::Pipe);
+    let mut comma = Remaining::Fresh;
+    while p.next_is(table, Kind::Pat) {
         before_item(src, table, fmt, queue, out, comma);
-        let n = pump(table, fmt, &mut p);
+        let n = p.pump(table, fmt);
         pat(src, table, fmt, queue, out, n, 64);
         comma = behind_item(src, table, fmt, queue, out, &mut p);
     }
     close_list(src, table, fmt, queue, out, comma);
-    token(src, table, fmt, queue, out, &mut p, bytes::PIPE);
-    left_over(table, fmt, &p);
+    token(src, table, fmt, queue, out, &mut p, Kind::Pipe);
+    p.left_over(table, fmt);
 }
 
 // Those of a closure; `||` where there are none.
@@ -140,8 +138,8 @@ pub fn closure_args(
 )
     ensures { Walked src table fmt queue out p (closure_args (tree table)) }
 {
-    if next_is(table, p, bytes::CLOSURE_ARGS) {
-        let k = pump(table, fmt, p);
+    if p.next_is(table, Kind::ClosureArguments) {
+        let k = p.pump(table, fmt);
         bars(src, table, fmt, queue, out, k);
         return;
     }
@@ -159,8 +157,8 @@ pub fn args_of(
 )
     ensures { Walked src table fmt queue out p (args_of (tree table)) }
 {
-    if next_is(table, p, bytes::FN_ARGS) {
-        let k = pump(table, fmt, p);
+    if p.next_is(table, Kind::FnArgs) {
+        let k = p.pump(table, fmt);
         fn_args(src, table, fmt, queue, out, k);
         return;
     }
@@ -178,9 +176,9 @@ pub fn let_pat(
 )
     ensures { Walked src table fmt queue out p (let_pat (tree table)) }
 {
-    word(src, table, fmt, queue, out, p, bytes::KW_LET);
+    word(src, table, fmt, queue, out, p, Kind::Let);
     next_pat(src, table, fmt, queue, out, p);
-    between(src, table, fmt, queue, out, p, bytes::EQ);
+    between(src, table, fmt, queue, out, p, Kind::Eq);
 }
 
 // `for`, a pattern, `in`.
@@ -194,7 +192,7 @@ pub fn for_in(
 )
     ensures { Walked src table fmt queue out p (for_in (tree table)) }
 {
-    word(src, table, fmt, queue, out, p, bytes::KW_FOR);
+    word(src, table, fmt, queue, out, p, Kind::For);
     next_pat(src, table, fmt, queue, out, p);
-    between(src, table, fmt, queue, out, p, bytes::KW_IN);
+    between(src, table, fmt, queue, out, p, Kind::In);
 }

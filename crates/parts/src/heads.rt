@@ -7,7 +7,7 @@ use crate::args::{args_of, let_pat};
 use crate::spaced::{between, word};
 use bodies::body::{item_enum, item_struct};
 use calls::ws;
-use kinds::bytes;
+use kinds::{Kind, bytes};
 use lent::formatter::Formatter;
 use lent::ring::Queue;
 use paths::attribute::attributes;
@@ -28,8 +28,8 @@ fn fn_head(
 )
     ensures { Walked src table fmt queue out p (fn_head (tree table)) }
 {
-    token(src, table, fmt, queue, out, p, bytes::KW_FN);
-    spaced_if(src, table, fmt, queue, out, p, bytes::IDENT);
+    token(src, table, fmt, queue, out, p, Kind::Fn);
+    spaced_if(src, table, fmt, queue, out, p, Kind::Ident);
     args_of(src, table, fmt, queue, out, p);
     ws(src, table, fmt, queue, out);
 }
@@ -45,7 +45,7 @@ fn impl_head(
 )
     ensures { Walked src table fmt queue out p (impl_head (tree table)) }
 {
-    word(src, table, fmt, queue, out, p, bytes::KW_IMPL);
+    word(src, table, fmt, queue, out, p, Kind::Impl);
     next_path(src, table, fmt, queue, out, p);
     ws(src, table, fmt, queue, out);
 }
@@ -61,7 +61,7 @@ fn mod_head(
 )
     ensures { Walked src table fmt queue out p (mod_head (tree table)) }
 {
-    word(src, table, fmt, queue, out, p, bytes::KW_MOD);
+    word(src, table, fmt, queue, out, p, Kind::Mod);
     any(src, table, fmt, queue, out, p);
 }
 
@@ -77,7 +77,7 @@ fn const_head(
     ensures { Walked src table fmt queue out p (const_head (tree table)) }
 {
     any(src, table, fmt, queue, out, p);
-    between(src, table, fmt, queue, out, p, bytes::EQ);
+    between(src, table, fmt, queue, out, p, Kind::Eq);
 }
 
 // All that stands in front of an item's block or value, or the whole item where it has neither.

@@ -5,13 +5,13 @@ ghost use Rattle.walk.specs.Flow.{Walked};
 ghost use Rattle.parts.specs.Labels.{expr_labels, preceded, before_expr};
 
 use calls::ws;
-use kinds::bytes;
+use kinds::Kind;
 use lent::formatter::Formatter;
 use lent::ring::Queue;
 use paths::modifier::modifiers;
 use patterns::pat_parts::pat_attributes;
 use steps::remaining::{Mark, put_remaining};
-use walk::stream::{Stream, next_is};
+use walk::stream::Stream;
 use walk::tokens::any;
 
 // Each with its colon.
@@ -25,7 +25,7 @@ fn expr_labels(
 )
     ensures { Walked src table fmt queue out p (expr_labels (tree table)) }
 {
-    while next_is(table, p, bytes::LABEL) {
+    while p.next_is(table, Kind::Label) {
         any(src, table, fmt, queue, out, p);
         put_remaining(src, table, fmt, queue, out, p, Mark::Colon);
         ws(src, table, fmt, queue, out);
@@ -36,13 +36,8 @@ fn expr_labels(
 fn preceded(table: &[u32], p: &Stream) -> bool
     ensures { result ≡ preceded (tree table) (stream_here table p) }
 {
-    if next_is(table, p, bytes::ATTR) {
-        return true;
-    }
-    if next_is(table, p, bytes::MODIFIERS) {
-        return true;
-    }
-    next_is(table, p, bytes::LABEL)
+    p.next_is(table, Kind::Attribute)
+        || (p.next_is(table, Kind::Modifiers) || p.next_is(table, Kind::Label))
 }
 
 // Attributes, modifiers, labels. Before most expressions there is none, and one look tells.

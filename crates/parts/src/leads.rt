@@ -8,11 +8,11 @@ ghost use Rattle.parts.specs.Leads.{jump_labels, jump_word, lead_head, lead_take
 use crate::args::closure_args;
 use crate::spaced::next_expr;
 use calls::{lit, ws};
-use kinds::bytes;
+use kinds::{Kind, bytes};
 use lent::formatter::Formatter;
 use lent::ring::Queue;
 use meaning::call::Literal;
-use walk::stream::{Stream, next_is};
+use walk::stream::Stream;
 use walk::tokens::{any, token};
 
 // Behind `break` and `continue`.
@@ -26,7 +26,7 @@ fn jump_labels(
 )
     ensures { Walked src table fmt queue out p (jump_labels (tree table)) }
 {
-    while next_is(table, p, bytes::LABEL) {
+    while p.next_is(table, Kind::Label) {
         ws(src, table, fmt, queue, out);
         any(src, table, fmt, queue, out, p);
     }
@@ -46,15 +46,15 @@ fn jump_word(
 {
     match kind {
         bytes::EXPR_BREAK => {
-            token(src, table, fmt, queue, out, p, bytes::KW_BREAK);
+            token(src, table, fmt, queue, out, p, Kind::Break);
             jump_labels(src, table, fmt, queue, out, p);
         }
         bytes::EXPR_CONTINUE => {
-            token(src, table, fmt, queue, out, p, bytes::KW_CONTINUE);
+            token(src, table, fmt, queue, out, p, Kind::Continue);
             jump_labels(src, table, fmt, queue, out, p);
         }
-        bytes::EXPR_RETURN => token(src, table, fmt, queue, out, p, bytes::KW_RETURN),
-        _ => token(src, table, fmt, queue, out, p, bytes::KW_YIELD),
+        bytes::EXPR_RETURN => token(src, table, fmt, queue, out, p, Kind::Return),
+        _ => token(src, table, fmt, queue, out, p, Kind::Yield),
     }
 }
 
@@ -82,10 +82,7 @@ pub fn lead_head(
 pub fn lead_takes(table: &[u32], p: &Stream, kind: u8) -> bool
     ensures { result ≡ next_is (lead_takes (tree table) kind) (stream_here table p) }
 {
-    if kind == bytes::EXPR_CONTINUE {
-        return false;
-    }
-    next_expr(table, p)
+    kind != bytes::EXPR_CONTINUE && next_expr(table, p)
 }
 
 // The space in front of a jump's; a closure's stands there already.

@@ -5,7 +5,7 @@ ghost use Rattle.walk.specs.Flow.{Walked, parse};
 ghost use Rattle.parts.specs.Links.{tried, awaited, field_of, open_index, close_index, indent_first, break_link, chain_end};
 
 use calls::{comments, indent, nl};
-use kinds::bytes;
+use kinds::Kind;
 use lent::formatter::Formatter;
 use lent::ring::Queue;
 use loose::chain::is_dot;
@@ -13,7 +13,7 @@ use meaning::call::Hint;
 use paths::path::next_path;
 use tree::record::RecordNo;
 use tree::table::kind_at;
-use walk::stream::{Stream, left_over, next_is, records_of};
+use walk::stream::{Stream, records_of};
 use walk::tokens::{any, token};
 
 // `?`.
@@ -28,8 +28,8 @@ pub fn try_link(
     ensures { Made src table fmt queue out (parse (tree table) (tried (tree table)) k) }
 {
     let mut p = records_of(table, k);
-    token(src, table, fmt, queue, out, &mut p, bytes::QUESTION);
-    left_over(table, fmt, &p);
+    token(src, table, fmt, queue, out, &mut p, Kind::QuestionMark);
+    p.left_over(table, fmt);
 }
 
 // `.await`.
@@ -44,9 +44,9 @@ pub fn await_link(
     ensures { Made src table fmt queue out (parse (tree table) (awaited (tree table)) k) }
 {
     let mut p = records_of(table, k);
-    token(src, table, fmt, queue, out, &mut p, bytes::DOT);
-    token(src, table, fmt, queue, out, &mut p, bytes::KW_AWAIT);
-    left_over(table, fmt, &p);
+    token(src, table, fmt, queue, out, &mut p, Kind::Dot);
+    token(src, table, fmt, queue, out, &mut p, Kind::Await);
+    p.left_over(table, fmt);
 }
 
 // `.` and a number or a path.
@@ -61,14 +61,14 @@ pub fn field_link(
     ensures { Made src table fmt queue out (parse (tree table) (field_of (tree table)) k) }
 {
     let mut p = records_of(table, k);
-    token(src, table, fmt, queue, out, &mut p, bytes::DOT);
-    if next_is(table, &p, bytes::NUMBER) {
+    token(src, table, fmt, queue, out, &mut p, Kind::Dot);
+    if p.next_is(table, Kind::Number) {
         any(src, table, fmt, queue, out, &mut p);
-        left_over(table, fmt, &p);
+        p.left_over(table, fmt);
         return;
     }
     next_path(src, table, fmt, queue, out, &mut p);
-    left_over(table, fmt, &p);
+    p.left_over(table, fmt);
 }
 
 // `[` of an index.
@@ -82,7 +82,7 @@ pub fn open_index(
 )
     ensures { Walked src table fmt queue out p (open_index (tree table)) }
 {
-    token(src, table, fmt, queue, out, p, bytes::BRACKET_OPEN);
+    token(src, table, fmt, queue, out, p, Kind::OpenBracket);
     comments(src, table, fmt, queue, out, Hint::Prefix);
 }
 
@@ -98,7 +98,7 @@ pub fn close_index(
     ensures { Walked src table fmt queue out p (close_index (tree table)) }
 {
     comments(src, table, fmt, queue, out, Hint::Suffix);
-    token(src, table, fmt, queue, out, p, bytes::BRACKET_CLOSE);
+    token(src, table, fmt, queue, out, p, Kind::CloseBracket);
 }
 
 // The first link on a new line indents.

@@ -5,14 +5,14 @@ ghost use Rattle.parts.specs.Lone.{whole, lone, no_item};
 
 use calls::write_owned;
 use kinds::bytes;
-use lent::formatter::{Formatter, refuse};
+use lent::formatter::Formatter;
 use lent::ring::Queue;
 use meaning::answer::Refusal;
 use paths::path::path;
 use patterns::pat_parts::pat_lit;
 use tree::record::RecordNo;
 use tree::table::kind_at;
-use walk::stream::{left_over, records_of};
+use walk::stream::records_of;
 use walk::tokens::any;
 
 // One node or token, written whole: a template, a full range.
@@ -28,7 +28,7 @@ fn whole(
 {
     let mut p = records_of(table, k);
     any(src, table, fmt, queue, out, &mut p);
-    left_over(table, fmt, &p);
+    p.left_over(table, fmt);
 }
 
 // A lone token is written; a node without a rule is refusal 9.
@@ -52,7 +52,7 @@ pub fn lone(
                 write_owned(src, table, fmt, queue, out, k);
                 return;
             }
-            refuse(fmt, Refusal::NoRule(k));
+            fmt.refuse(Refusal::NoRule(k));
         }
     }
 }
@@ -62,8 +62,8 @@ pub fn no_item(table: &[u32], fmt: &mut Formatter, k: RecordNo)
     ensures { Refused fmt (no_item (tree table) k) }
 {
     if kind_at(table, k) < 0x80 {
-        refuse(fmt, Refusal::WrongKind(k));
+        fmt.refuse(Refusal::WrongKind(k));
         return;
     }
-    refuse(fmt, Refusal::NoRule(k));
+    fmt.refuse(Refusal::NoRule(k));
 }

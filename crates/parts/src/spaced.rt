@@ -5,82 +5,75 @@ ghost use Rattle.walk.specs.Flow.{Walked};
 ghost use Rattle.parts.specs.Spaced.{is_expr, ExpectedExpr, TookGuard, word, between};
 
 use calls::ws;
-use kinds::bytes;
+use kinds::{Kind, KindByte, bytes};
 use lent::formatter::Formatter;
 use lent::ring::Queue;
 use tree::record::RecordNo;
-use walk::stream::{Stream, is_some, next_is, not_met, nothing, pump, take};
+use walk::stream::Stream;
 use walk::tokens::token;
 
 // An expression is next, whether it needs a semicolon or not.
 pub fn next_expr(table: &[u32], p: &Stream) -> bool
     ensures { result ≡ next_is (is_expr (tree table)) (stream_here table p) }
 {
-    if next_is(table, p, bytes::EXPR) {
-        return true;
-    }
-    next_is(table, p, bytes::EXPR_SEMI)
+    p.next_is(table, Kind::Expr) || p.next_is(table, Kind::ExprSemi)
 }
 
 // The next record, if it is an expression.
-fn eat_expr(table: &[u32], p: &mut Stream) -> RecordNo
+fn eat_expr(table: &[u32], p: &mut Stream) -> Option<RecordNo>
     ensures { Ate (take_if (is_expr (tree table)) (stream_in table p)) result (stream_out table p) }
 {
     if next_expr(table, p) {
-        return take(table, p);
+        return p.take(table);
     }
-    nothing()
+    None
 }
 
-// The expression that must stand next.
+// The expression that must stand next. No Option, as in walk's `expect`: a step that finds none has refused.
 pub fn expect_expr(table: &[u32], fmt: &mut Formatter, p: &mut Stream) -> RecordNo
     ensures { ExpectedExpr table fmt p result }
 {
-    let k = eat_expr(table, p);
-    if is_some(k) {
-        return k;
-    }
-    not_met(table, fmt, p);
-    k
+    let found = eat_expr(table, p);
+    p.or_refused(table, fmt, found)
 }
 
-// What stands behind `=` or `if` in front of the `=>` of an arm: any node, or an expression.
+// What stands behind `=` or `if` in front of the `=>` of an arm: any node, or an expression. No Option, either.
 pub fn take_guard(table: &[u32], fmt: &mut Formatter, p: &mut Stream, kind: u8) -> RecordNo
     ensures { TookGuard table fmt p kind result }
 {
     if kind == bytes::KW_IF {
         return expect_expr(table, fmt, p);
     }
-    pump(table, fmt, p)
+    p.pump(table, fmt)
 }
 
 // A token and a space.
-pub fn word(
+pub fn word<K: KindByte>(
     src: &[u8],
     table: &[u32],
     fmt: &mut Formatter,
     queue: &mut Queue,
     out: &mut [u8],
     p: &mut Stream,
-    kind: u8,
+    kind: K,
 )
-    ensures { Walked src table fmt queue out p (word (tree table) kind) }
+    ensures { Walked src table fmt queue out p (word (tree table) (K.as_byte kind)) }
 {
     token(src, table, fmt, queue, out, p, kind);
     ws(src, table, fmt, queue, out);
 }
 
 // A token between spaces.
-pub fn between(
+pub fn between<K: KindByte>(
     src: &[u8],
     table: &[u32],
     fmt: &mut Formatter,
     queue: &mut Queue,
     out: &mut [u8],
     p: &mut Stream,
-    kind: u8,
+    kind: K,
 )
-    ensures { Walked src table fmt queue out p (between (tree table) kind) }
+    ensures { Walked src table fmt queue out p (between (tree table) (K.as_byte kind)) }
 {
     ws(src, table, fmt, queue, out);
     token(src, table, fmt, queue, out, p, kind);

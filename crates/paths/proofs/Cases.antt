@@ -14,7 +14,7 @@ use Rattle.meaning.specs.Plan.{calls_of}
 use Rattle.walk.specs.Stream.{Stream, stream, no, records_of, take_if}
 use Rattle.walk.specs.Flow.{Flow, ◌▸◌, plain, on_found, pump}
 use Rattle.walk.specs.Loop.{turns, loop}
-use Rattle.paths.specs.Attribute.{attributes, inner_attributes}
+use Rattle.paths.specs.Attribute.{on_lines, attributes, inner_attributes}
 
 record_of : ℕ → ℕ → Record
 record_of kind below = record { whole = true; kind = kind; span = span_of 0 0; below = below }
@@ -45,18 +45,18 @@ pub record Does (f : Stream → Flow Stream) (s : Stream) (cs : List Call) (left
   pub rest : (f s).rest ≡ stream (no 0) left
 
 pub attributes_written : Does (attributes (tree 0x82)) (records 0x82) both (7 ∷ [])
-unfolding record_of tree records both node_of siblings shown passes kept behind facts_of byte_of take_if ◌▸◌ plain on_found pump turns loop attributes
+unfolding record_of tree records both node_of siblings shown passes kept behind facts_of byte_of take_if ◌▸◌ plain on_found pump turns loop on_lines attributes
 attributes_written = record { calls = refl; rest = refl }
 
 pub inner_written : Does (inner_attributes (tree 0x83)) (records 0x83) both (7 ∷ [])
-unfolding record_of tree records both node_of siblings shown passes kept behind facts_of byte_of take_if ◌▸◌ plain on_found pump turns loop inner_attributes
+unfolding record_of tree records both node_of siblings shown passes kept behind facts_of byte_of take_if ◌▸◌ plain on_found pump turns loop on_lines inner_attributes
 inner_written = record { calls = refl; rest = refl }
 
 -- neither takes the other's
 pub inner_left : Does (attributes (tree 0x83)) (records 0x83) [] (1 ∷ 5 ∷ 7 ∷ [])
-unfolding record_of tree records node_of siblings shown passes kept behind facts_of byte_of take_if ◌▸◌ plain on_found pump turns loop attributes
+unfolding record_of tree records node_of siblings shown passes kept behind facts_of byte_of take_if ◌▸◌ plain on_found pump turns loop on_lines attributes
 inner_left = record { calls = refl; rest = refl }
 
 pub outer_left : Does (inner_attributes (tree 0x82)) (records 0x82) [] (1 ∷ 5 ∷ 7 ∷ [])
-unfolding record_of tree records node_of siblings shown passes kept behind facts_of byte_of take_if ◌▸◌ plain on_found pump turns loop inner_attributes
+unfolding record_of tree records node_of siblings shown passes kept behind facts_of byte_of take_if ◌▸◌ plain on_found pump turns loop on_lines inner_attributes
 outer_left = record { calls = refl; rest = refl }

@@ -1,4 +1,5 @@
 -- Laws of modifiers: the rule by the byte of the kind, and the space between them. Assumes nothing.
+use Rattle.lent.specs.declared.formatter.Formatter.{Formatter}
 use Rattle.steps.proofs.Rules.{◌≡◌, refl, sym, subst, ◌∙◌, Bool, true, false, ◌||◌, List, ◌⊎◌, inl, inr, ℕ, zero, suc, ◌+◌, ◌-◌, ◌<◌, ◌≤◌}
 use Rattle.steps.proofs.Rules.{arith, eqb, ne_eqb, Record, RecordNo, node_of, byte_of, facts_of, Ws, WrongKind, Script, make, refuse, ◌then◌, Engine}
 use Rattle.steps.proofs.Rules.{engine, Makes, Refuses, write, parse, pump_takes, Each}
@@ -25,7 +26,7 @@ module _ {x : Script} (rs : List Record) (any : Bool) (k : RecordNo) {n : ℕ} (
   unfolding modifier is_word byte_of facts_of
   as_in h a = rw (sym q ∙ h) a
 
-  pub as_error : {w w' b c : List ℕ} → n ≡ 254 → Refuses (refuse (WrongKind k)) w w' → Makes x (modifier rs any k) (engine w b c) (engine w' b c)
+  pub as_error : {w w' : Formatter} {b c : List ℕ} → n ≡ 254 → Refuses (refuse (WrongKind k)) w w' → Makes x (modifier rs any k) (engine w b c) (engine w' b c)
   unfolding modifier is_word byte_of facts_of
   as_error h a = rw (sym q ∙ h) (a.ran x _ _)
 

@@ -1,10 +1,11 @@
 -- Laws of paths: by the depth that is left, and by a part's kind. Assumes nothing.
+use Rattle.lent.specs.declared.formatter.Formatter.{Formatter}
 use Rattle.steps.proofs.Rules.{◌≡◌, refl, List, ℕ, zero, suc, ◌-◌, arith, Record, RecordNo, TreeDeep, Script, refuse, Engine, engine, Makes, Refuses}
 use Rattle.steps.proofs.Rules.{parse}
 use Rattle.paths.specs.Path.{path_rule, path, path_generics}
 
 module _ {x : Script} (rs : List Record) (k : RecordNo) where
-  pub path_none : {d : ℕ} {w w' q b : List ℕ} → d ≡ 0 → Refuses (refuse (TreeDeep k)) w w' → Makes x (path rs d k) (engine w q b) (engine w' q b)
+  pub path_none : {d : ℕ} {w w' : Formatter} {q b : List ℕ} → d ≡ 0 → Refuses (refuse (TreeDeep k)) w w' → Makes x (path rs d k) (engine w q b) (engine w' q b)
   unfolding path
   path_none e h = rw e (h.ran x _ _)
 

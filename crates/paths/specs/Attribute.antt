@@ -15,11 +15,15 @@ use Rattle.paths.specs.Path.{path}
 
 -- ---- attributes, each on a line of its own
 
+-- those of one kind that are next
+unfoldable pub on_lines : List Record → Kind → Stream → Flow Stream
+on_lines rs kind = loop (λ (s : Stream). s) (is rs kind) (pump write ▸ call (Nl 1))
+
 unfoldable pub attributes : List Record → Stream → Flow Stream
-attributes rs = loop (λ (s : Stream). s) (is rs Kind.Attribute) (pump write ▸ call (Nl 1))
+attributes rs = on_lines rs Kind.Attribute
 
 unfoldable pub inner_attributes : List Record → Stream → Flow Stream
-inner_attributes rs = loop (λ (s : Stream). s) (is rs Kind.InnerAttribute) (pump write ▸ call (Nl 1))
+inner_attributes rs = on_lines rs Kind.InnerAttribute
 
 -- ---- modifiers
 

@@ -6,14 +6,14 @@ ghost use Rattle.paths.specs.Attribute.{modifier_word, modifier_in, apart, modif
 
 use crate::path::next_path;
 use calls::{comments, write_owned, ws};
-use kinds::bytes;
-use lent::formatter::{Formatter, refuse};
+use kinds::{Kind, bytes};
+use lent::formatter::Formatter;
 use lent::ring::Queue;
 use meaning::answer::Refusal;
 use meaning::call::Hint;
 use tree::record::RecordNo;
 use tree::table::kind_at;
-use walk::stream::{Stream, eat, has_next, is_some, left_over, pump, records_of};
+use walk::stream::{Stream, records_of};
 use walk::tokens::{any, token};
 
 // `(super)`, `(self)`, `(crate)`.
@@ -28,12 +28,12 @@ fn modifier_word(
     ensures { Made src table fmt queue out (parse (tree table) (modifier_word (tree table)) k) }
 {
     let mut p = records_of(table, k);
-    token(src, table, fmt, queue, out, &mut p, bytes::PAREN_OPEN);
+    token(src, table, fmt, queue, out, &mut p, Kind::OpenParenthesis);
     comments(src, table, fmt, queue, out, Hint::Infix);
     any(src, table, fmt, queue, out, &mut p);
     comments(src, table, fmt, queue, out, Hint::Infix);
-    token(src, table, fmt, queue, out, &mut p, bytes::PAREN_CLOSE);
-    left_over(table, fmt, &p);
+    token(src, table, fmt, queue, out, &mut p, Kind::CloseParenthesis);
+    p.left_over(table, fmt);
 }
 
 // `(in path)`.
@@ -48,12 +48,12 @@ fn modifier_in(
     ensures { Made src table fmt queue out (parse (tree table) (modifier_in (tree table)) k) }
 {
     let mut p = records_of(table, k);
-    token(src, table, fmt, queue, out, &mut p, bytes::PAREN_OPEN);
-    token(src, table, fmt, queue, out, &mut p, bytes::KW_IN);
+    token(src, table, fmt, queue, out, &mut p, Kind::OpenParenthesis);
+    token(src, table, fmt, queue, out, &mut p, Kind::In);
     ws(src, table, fmt, queue, out);
     next_path(src, table, fmt, queue, out, &mut p);
-    token(src, table, fmt, queue, out, &mut p, bytes::PAREN_CLOSE);
-    left_over(table, fmt, &p);
+    token(src, table, fmt, queue, out, &mut p, Kind::CloseParenthesis);
+    p.left_over(table, fmt);
 }
 
 // A space, where something stood before.
@@ -90,7 +90,7 @@ fn modifier(
             src, table, fmt, queue, out, k,
         ),
         bytes::MOD_IN => modifier_in(src, table, fmt, queue, out, k),
-        bytes::ERROR => refuse(fmt, Refusal::WrongKind(k)),
+        bytes::ERROR => fmt.refuse(Refusal::WrongKind(k)),
         _ => {
             apart(src, table, fmt, queue, out, any);
             write_owned(src, table, fmt, queue, out, k);
@@ -111,13 +111,13 @@ fn modifier_list(
 {
     let mut p = records_of(table, k);
     let mut any = false;
-    while has_next(table, &p) {
-        let n = pump(table, fmt, &mut p);
+    while p.has_next(table) {
+        let n = p.pump(table, fmt);
         modifier(src, table, fmt, queue, out, n, any);
         any = true;
     }
     apart(src, table, fmt, queue, out, any);
-    left_over(table, fmt, &p);
+    p.left_over(table, fmt);
 }
 
 // The node of all modifiers, if it is next: format.rs 85 to 134.
@@ -131,8 +131,7 @@ pub fn modifiers(
 )
     ensures { Walked src table fmt queue out p (modifiers (tree table)) }
 {
-    let k = eat(table, p, bytes::MODIFIERS);
-    if is_some(k) {
+    if let Some(k) = p.eat(table, Kind::Modifiers) {
         modifier_list(src, table, fmt, queue, out, k);
     }
 }

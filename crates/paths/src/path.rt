@@ -6,15 +6,15 @@ ghost use Rattle.walk.specs.Flow.{Walked, expect};
 ghost use Rattle.paths.specs.Path.{path, path_part, path_generics};
 
 use calls::write_owned;
-use kinds::bytes;
-use lent::formatter::{Formatter, refuse};
+use kinds::{Kind, bytes};
+use lent::formatter::Formatter;
 use lent::ring::Queue;
 use meaning::answer::Refusal;
 use steps::items::{before_item, behind_item, close_list};
-use steps::remaining::fresh;
+use steps::remaining::Remaining;
 use tree::record::RecordNo;
 use tree::table::kind_at;
-use walk::stream::{Stream, expect, has_next, left_over, next_is, pump, records_of};
+use walk::stream::{Stream, records_of};
 use walk::tokens::token;
 
 // Its parts, one behind the other.
@@ -31,15 +31,15 @@ pub fn path(
     ensures { Made src table fmt queue out (path (tree table) depth k) }
 {
     if depth == 0 {
-        refuse(fmt, Refusal::TreeDeep(k));
+        fmt.refuse(Refusal::TreeDeep(k));
         return;
     }
     let mut p = records_of(table, k);
-    while has_next(table, &p) {
-        let n = pump(table, fmt, &mut p);
+    while p.has_next(table) {
+        let n = p.pump(table, fmt);
         path_part(src, table, fmt, queue, out, n, depth - 1);
     }
-    left_over(table, fmt, &p);
+    p.left_over(table, fmt);
 }
 
 // Generics by their rule, any other node whole.
@@ -76,17 +76,17 @@ pub fn path_generics(
     ensures { Made src table fmt queue out (path_generics (tree table) depth k) }
 {
     let mut p = records_of(table, k);
-    token(src, table, fmt, queue, out, &mut p, bytes::LT);
-    let mut comma = fresh();
-    while next_is(table, &p, bytes::PATH) {
+    token(src, table, fmt, queue, out, &mut p, Kind::Lt);
+    let mut comma = Remaining::Fresh;
+    while p.next_is(table, Kind::Path) {
         before_item(src, table, fmt, queue, out, comma);
-        let n = pump(table, fmt, &mut p);
+        let n = p.pump(table, fmt);
         path(src, table, fmt, queue, out, n, depth);
         comma = behind_item(src, table, fmt, queue, out, &mut p);
     }
     close_list(src, table, fmt, queue, out, comma);
-    token(src, table, fmt, queue, out, &mut p, bytes::GT);
-    left_over(table, fmt, &p);
+    token(src, table, fmt, queue, out, &mut p, Kind::Gt);
+    p.left_over(table, fmt);
 }
 
 // The path that must stand next.
@@ -100,6 +100,6 @@ pub fn next_path(
 )
     ensures { Walked src table fmt queue out p (expect (tree table) Kind.Path (path (tree table) 64)) }
 {
-    let k = expect(table, fmt, p, bytes::PATH);
+    let k = p.expect(table, fmt, Kind::Path);
     path(src, table, fmt, queue, out, k, 64);
 }

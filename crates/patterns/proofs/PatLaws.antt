@@ -1,40 +1,35 @@
 -- Laws of the rules of patterns: the ends of tuples and objects, that a turn takes a record, and the depth that is left. Assumes nothing.
-use Rattle.steps.proofs.Rules.{◌≡◌, refl, Bool, true, false, not, List, [], ◌∷◌, ℕ, zero, suc, ◌+◌, ◌-◌, ◌<◌, ◌≤◌, length, arith, Record}
+use Rattle.lent.specs.declared.formatter.Formatter.{Formatter}
+use Rattle.steps.proofs.Rules.{◌≡◌, refl, Bool, true, false, not, cond, List, [], ◌∷◌, ℕ, zero, suc, ◌-◌, ◌<◌, length, arith, Record}
 use Rattle.steps.proofs.Rules.{RecordNo, Kind, byte_of, Infix, Comments, Ws, TreeDeep, Script, Plan, nothing, make, refuse, ◌then◌, Engine, engine}
 use Rattle.steps.proofs.Rules.{Makes, Refuses, Stream, stream, next_in, next_is, take_if, ◌▸◌, write, pump, expect_byte}
-use Rattle.steps.proofs.Rules.{is, eat, if_next, either, parse, Goes, Remaining, fmt, ignore, says, Few, few_of, more, Place, place, turn, ◌▹◌}
+use Rattle.steps.proofs.Rules.{is, eat, if_next, either, parse, Goes, Remaining, fmt, ignore, says, Place, place, turn, ◌▹◌}
+use Rattle.steps.specs.declared.items.Few.{Few}
+use Rattle.steps.specs.declared.items.Few.TheVariants.{Zero, One, Many}
 use Rattle.steps.proofs.Rules.{steady, Falls, Takes, Leaves, pump_leaves, expect_leaves, plain_leaves, next_leaves, ◌leaves_then◌, plain_takes}
 use Rattle.steps.proofs.Rules.{turn_falls}
+use Rattle.steps.specs.Remaining.{write_only_if}
 use Rattle.lent.proofs.MadeLaws as made
 use Rattle.paths.specs.Path.{path}
 use Rattle.patterns.specs.Pattern.{tuple_end, tupled, tuple_rule, pat_tuple, is_key, key_or_dots, colon_pat, object_item, keyed, silent, object_closing}
 use Rattle.patterns.specs.Pattern.{object_end, pat_attributes, pat_child, pat}
 
--- ---- how many items there were
-
-pub more_few : (n : ℕ) → n < 2 → few_of (n + 1) ≡ more (few_of n)
-more_few zero h = refl
-more_few (suc zero) h = refl
-more_few (suc (suc n)) h = absurd (omega arith)
-
-pub more_many : (n : ℕ) → 2 ≤ n → few_of 2 ≡ more (few_of n)
-more_many zero h = absurd (omega arith)
-more_many (suc zero) h = absurd (omega arith)
-more_many (suc (suc n)) h = refl
-
 -- ---- the end of a tuple
 
-module _ {x : Script} (comma : Remaining) where
-  pub tuple_kept : {n : ℕ} {t : Bool} {e e' : Engine} → n ≡ 1 → t ≡ true → Makes x (fmt comma) e e' → Makes x (tuple_end t (few_of n) comma) e e'
-  tuple_kept h y a = rw (h, y) a
+module _ {x : Script} {n : Few} (t : Bool) (comma : Remaining) {e e' : Engine} where
+  pub tuple_none : {e'' : Engine} → n ≡ Zero → Makes x (ignore comma) e e' → Makes x (make (Comments Infix)) e' e'' → Makes x (tuple_end t n comma) e e''
+  tuple_none h a b = rw h (made.◌▹◌ a b)
 
-  pub tuple_none : {n : ℕ} (t : Bool) {e e' e'' : Engine} → n ≡ 0 → Makes x (ignore comma) e e' → Makes x (make (Comments Infix)) e' e'' → Makes x (tuple_end t (few_of n) comma) e e''
-  tuple_none t h a b = rw h (made.◌▹◌ a b)
+  pub tuple_one : n ≡ One → Makes x (write_only_if t comma) e e' → Makes x (tuple_end t n comma) e e'
+  unfolding write_only_if
+  tuple_one h a = rw h (go t a)
+    where
+      go : (t : Bool) → Makes x (cond t (fmt comma) (ignore comma)) e e' → Makes x (tuple_end t One comma) e e'
+      go true a = a
+      go false a = a
 
-  pub tuple_some : (n : ℕ) (t : Bool) {e e' : Engine} → (n ≡ 0 → ⊥) → (n ≡ 1 → t ≡ false) → Makes x (ignore comma) e e' → Makes x (tuple_end t (few_of n) comma) e e'
-  tuple_some zero t z o a = absurd (z refl)
-  tuple_some (suc zero) t z o a = rw (o refl) a
-  tuple_some (suc (suc n)) t z o a = a
+  pub tuple_many : n ≡ Many → Makes x (ignore comma) e e' → Makes x (tuple_end t n comma) e e'
+  tuple_many h a = rw h a
 
 pub tuple_ends : {x : Script} (trailing : Bool) {s : Stream} {c : Remaining} {n : Few} {e e' : Engine} → Makes x (tuple_end trailing n c) e e' → Goes x (tupled trailing) (place s c n) e e' s
 unfolding tupled
@@ -91,7 +86,7 @@ object_falls rs pat = turn_falls rs silent (λ c. plain_takes (fmt c then make W
 -- ---- the depth that is left
 
 module _ {x : Script} (rs : List Record) (k : RecordNo) where
-  pub too_deep : {d : ℕ} {w w' q b : List ℕ} → d ≡ 0 → Refuses (refuse (TreeDeep k)) w w' → Makes x (pat rs d k) (engine w q b) (engine w' q b)
+  pub too_deep : {d : ℕ} {w w' : Formatter} {q b : List ℕ} → d ≡ 0 → Refuses (refuse (TreeDeep k)) w w' → Makes x (pat rs d k) (engine w q b) (engine w' q b)
   unfolding pat
   too_deep e h = rw e (h.ran x _ _)
 

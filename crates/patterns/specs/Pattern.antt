@@ -12,7 +12,9 @@ use Rattle.walk.specs.Stream.{Stream, next_is}
 use Rattle.walk.specs.Flow.{Flow, flow, ◌▸◌, plain, call, write, pump, expect, eat, if_next, either, is, parse}
 use Rattle.walk.specs.Loop.{loop}
 use Rattle.steps.specs.Remaining.{Remaining, fmt, ignore, says, remaining, put_remaining}
-use Rattle.steps.specs.Items.{Few, Zero, One, Many, Place, items, list, listed, suffix}
+use Rattle.steps.specs.Items.{Place, items, list, listed, suffix}
+use Rattle.steps.specs.declared.items.Few.{Few}
+use Rattle.steps.specs.declared.items.Few.TheVariants.{Zero, One, Many}
 use Rattle.paths.specs.Path.{path}
 
 -- ---- lists of patterns

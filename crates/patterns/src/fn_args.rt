@@ -5,13 +5,13 @@ ghost use Rattle.walk.specs.Flow.{parse};
 ghost use Rattle.patterns.specs.Pattern.{fn_args};
 
 use crate::pat::pat;
-use kinds::bytes;
+use kinds::Kind;
 use lent::formatter::Formatter;
 use lent::ring::Queue;
 use steps::items::{before_item, behind_item, close_list};
-use steps::remaining::{Mark, fresh, pass, take_remaining};
+use steps::remaining::{Mark, Remaining, pass, take_remaining};
 use tree::record::RecordNo;
-use walk::stream::{left_over, next_is, pump, records_of};
+use walk::stream::records_of;
 use walk::tokens::token;
 
 // A comma in front of the first is passed over.
@@ -26,17 +26,17 @@ pub fn fn_args(
     ensures { Made src table fmt queue out (parse (tree table) (fn_args (tree table)) k) }
 {
     let mut p = records_of(table, k);
-    token(src, table, fmt, queue, out, &mut p, bytes::PAREN_OPEN);
+    token(src, table, fmt, queue, out, &mut p, Kind::OpenParenthesis);
     let first = take_remaining(table, fmt, &mut p, Mark::Comma);
     pass(src, table, fmt, queue, out, first);
-    let mut comma = fresh();
-    while next_is(table, &p, bytes::PAT) {
+    let mut comma = Remaining::Fresh;
+    while p.next_is(table, Kind::Pat) {
         before_item(src, table, fmt, queue, out, comma);
-        let n = pump(table, fmt, &mut p);
+        let n = p.pump(table, fmt);
         pat(src, table, fmt, queue, out, n, 64);
         comma = behind_item(src, table, fmt, queue, out, &mut p);
     }
     close_list(src, table, fmt, queue, out, comma);
-    token(src, table, fmt, queue, out, &mut p, bytes::PAREN_CLOSE);
-    left_over(table, fmt, &p);
+    token(src, table, fmt, queue, out, &mut p, Kind::CloseParenthesis);
+    p.left_over(table, fmt);
 }

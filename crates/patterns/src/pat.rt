@@ -5,20 +5,20 @@ ghost use Rattle.walk.specs.Flow.{Walked, parse};
 ghost use Rattle.patterns.specs.Pattern.{pat, pat_child, pat_item, pat_array, pat_tuple, pat_object, object_item, colon_pat};
 
 use crate::pat_parts::{
-    close_object, close_tuple, key_or_dots, more, object_name, pat_attributes, pat_lit,
-    pat_or_dots, path_if,
+    close_object, close_tuple, key_or_dots, object_name, pat_attributes, pat_lit, pat_or_dots,
+    path_if,
 };
 use calls::{write_owned, ws};
-use kinds::bytes;
-use lent::formatter::{Formatter, refuse};
+use kinds::{Kind, bytes};
+use lent::formatter::Formatter;
 use lent::ring::Queue;
 use meaning::answer::Refusal;
 use paths::path::path;
-use steps::items::{before_item, behind_item, close_list};
-use steps::remaining::{Mark, fresh, put, put_remaining, take_remaining};
+use steps::items::{Few, before_item, behind_item, close_list};
+use steps::remaining::{Mark, Remaining, put, put_remaining, take_remaining};
 use tree::record::RecordNo;
 use tree::table::kind_at;
-use walk::stream::{Stream, expect, left_over, next_is, pump, records_of};
+use walk::stream::{Stream, records_of};
 use walk::tokens::{any, token};
 
 // A pattern: its attributes, then its one child.
@@ -35,14 +35,14 @@ pub fn pat(
     ensures { Made src table fmt queue out (pat (tree table) depth k) }
 {
     if depth == 0 {
-        refuse(fmt, Refusal::TreeDeep(k));
+        fmt.refuse(Refusal::TreeDeep(k));
         return;
     }
     let mut p = records_of(table, k);
     pat_attributes(src, table, fmt, queue, out, &mut p);
-    let n = pump(table, fmt, &mut p);
+    let n = p.pump(table, fmt);
     pat_child(src, table, fmt, queue, out, n, depth - 1);
-    left_over(table, fmt, &p);
+    p.left_over(table, fmt);
 }
 
 // The child's kind names the rule.
@@ -66,7 +66,7 @@ fn pat_child(
         bytes::PAT_ARRAY => pat_array(src, table, fmt, queue, out, k, depth),
         bytes::PAT_TUPLE => pat_tuple(src, table, fmt, queue, out, k, depth),
         bytes::PAT_OBJECT => pat_object(src, table, fmt, queue, out, k, depth),
-        _ => refuse(fmt, Refusal::WrongKind(k)),
+        _ => fmt.refuse(Refusal::WrongKind(k)),
     }
 }
 
@@ -104,17 +104,17 @@ pub fn pat_array(
     ensures { Made src table fmt queue out (parse (tree table) (pat_array (tree table) (pat (tree table) depth)) k) }
 {
     let mut p = records_of(table, k);
-    token(src, table, fmt, queue, out, &mut p, bytes::BRACKET_OPEN);
-    let mut comma = fresh();
+    token(src, table, fmt, queue, out, &mut p, Kind::OpenBracket);
+    let mut comma = Remaining::Fresh;
     while pat_or_dots(table, &p) {
         before_item(src, table, fmt, queue, out, comma);
-        let n = pump(table, fmt, &mut p);
+        let n = p.pump(table, fmt);
         pat_item(src, table, fmt, queue, out, n, depth);
         comma = behind_item(src, table, fmt, queue, out, &mut p);
     }
     close_list(src, table, fmt, queue, out, comma);
-    token(src, table, fmt, queue, out, &mut p, bytes::BRACKET_CLOSE);
-    left_over(table, fmt, &p);
+    token(src, table, fmt, queue, out, &mut p, Kind::CloseBracket);
+    p.left_over(table, fmt);
 }
 
 // `(a, b)`, with its path, if it has one.
@@ -131,21 +131,21 @@ pub fn pat_tuple(
     ensures { Made src table fmt queue out (parse (tree table) (pat_tuple (tree table) (pat (tree table) depth)) k) }
 {
     let mut p = records_of(table, k);
-    let trailing = !next_is(table, &p, bytes::PATH);
+    let trailing = !p.next_is(table, Kind::Path);
     path_if(src, table, fmt, queue, out, &mut p);
-    token(src, table, fmt, queue, out, &mut p, bytes::PAREN_OPEN);
-    let mut count: u8 = 0;
-    let mut comma = fresh();
+    token(src, table, fmt, queue, out, &mut p, Kind::OpenParenthesis);
+    let mut count = Few::Zero;
+    let mut comma = Remaining::Fresh;
     while pat_or_dots(table, &p) {
         before_item(src, table, fmt, queue, out, comma);
-        let n = pump(table, fmt, &mut p);
+        let n = p.pump(table, fmt);
         pat_item(src, table, fmt, queue, out, n, depth);
         comma = behind_item(src, table, fmt, queue, out, &mut p);
-        count = more(count);
+        count = count.more();
     }
     close_tuple(src, table, fmt, queue, out, comma, count, trailing);
-    token(src, table, fmt, queue, out, &mut p, bytes::PAREN_CLOSE);
-    left_over(table, fmt, &p);
+    token(src, table, fmt, queue, out, &mut p, Kind::CloseParenthesis);
+    p.left_over(table, fmt);
 }
 
 // `#{ a, b: c }`, or with a path in place of `#`.
@@ -163,8 +163,8 @@ pub fn pat_object(
 {
     let mut p = records_of(table, k);
     object_name(src, table, fmt, queue, out, &mut p);
-    token(src, table, fmt, queue, out, &mut p, bytes::BRACE_OPEN);
-    let mut comma = fresh();
+    token(src, table, fmt, queue, out, &mut p, Kind::OpenBrace);
+    let mut comma = Remaining::Fresh;
     while key_or_dots(table, &p) {
         put(src, table, fmt, queue, out, comma, Mark::Comma);
         ws(src, table, fmt, queue, out);
@@ -173,7 +173,7 @@ pub fn pat_object(
     }
     close_object(src, table, fmt, queue, out, comma);
     put_remaining(src, table, fmt, queue, out, &mut p, Mark::CloseBrace);
-    left_over(table, fmt, &p);
+    p.left_over(table, fmt);
 }
 
 // A key with its pattern, or `..`.
@@ -189,12 +189,12 @@ fn object_item(
 )
     ensures { Walked src table fmt queue out p (object_item (tree table) (pat (tree table) depth)) }
 {
-    if next_is(table, p, bytes::OBJ_KEY) {
+    if p.next_is(table, Kind::ObjectKey) {
         any(src, table, fmt, queue, out, p);
         colon_pat(src, table, fmt, queue, out, p, depth);
         return;
     }
-    token(src, table, fmt, queue, out, p, bytes::DOTDOT);
+    token(src, table, fmt, queue, out, p, Kind::DotDot);
 }
 
 // A colon and a pattern behind a key.
@@ -210,10 +210,10 @@ fn colon_pat(
 )
     ensures { Walked src table fmt queue out p (colon_pat (tree table) (pat (tree table) depth)) }
 {
-    if next_is(table, p, bytes::COLON) {
+    if p.next_is(table, Kind::Colon) {
         any(src, table, fmt, queue, out, p);
         ws(src, table, fmt, queue, out);
-        let k = expect(table, fmt, p, bytes::PAT);
+        let k = p.expect(table, fmt, Kind::Pat);
         pat(src, table, fmt, queue, out, k, depth);
     }
 }

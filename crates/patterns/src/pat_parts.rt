@@ -5,19 +5,19 @@ ghost use Rattle.lent.specs.Loans.{Made};
 ghost use Rattle.walk.specs.Stream.{tree, stream_here, next_is};
 ghost use Rattle.walk.specs.Flow.{Walked, eat, parse};
 ghost use Rattle.steps.specs.Remaining.{remaining_of};
-ghost use Rattle.steps.specs.Items.{few_of, more};
 ghost use Rattle.paths.specs.Path.{path};
 ghost use Rattle.patterns.specs.Pattern.{pat_attributes, pat_lit, pat_or_dots, tuple_end, object_name, key_or_dots, object_closing};
 
 use calls::{comments, ws};
-use kinds::bytes;
+use kinds::Kind;
 use lent::formatter::Formatter;
 use lent::ring::Queue;
 use meaning::call::Hint;
 use paths::path::{next_path, path};
-use steps::remaining::{Mark, Remaining, pass, put, says};
+use steps::items::Few;
+use steps::remaining::{Mark, Remaining, pass, write_only_if};
 use tree::record::RecordNo;
-use walk::stream::{Stream, eat, is_some, left_over, next_is, records_of};
+use walk::stream::{Stream, records_of};
 use walk::tokens::{any, token, token_if};
 
 // Attributes in front of a pattern stay on its line.
@@ -31,7 +31,7 @@ pub fn pat_attributes(
 )
     ensures { Walked src table fmt queue out p (pat_attributes (tree table)) }
 {
-    while next_is(table, p, bytes::ATTR) {
+    while p.next_is(table, Kind::Attribute) {
         any(src, table, fmt, queue, out, p);
         ws(src, table, fmt, queue, out);
     }
@@ -49,19 +49,16 @@ pub fn pat_lit(
     ensures { Made src table fmt queue out (parse (tree table) (pat_lit (tree table)) k) }
 {
     let mut p = records_of(table, k);
-    token_if(src, table, fmt, queue, out, &mut p, bytes::MINUS);
+    token_if(src, table, fmt, queue, out, &mut p, Kind::Dash);
     any(src, table, fmt, queue, out, &mut p);
-    left_over(table, fmt, &p);
+    p.left_over(table, fmt);
 }
 
 // A pattern or `..` is next.
 pub fn pat_or_dots(table: &[u32], p: &Stream) -> bool
     ensures { result ≡ next_is (pat_or_dots (tree table)) (stream_here table p) }
 {
-    if next_is(table, p, bytes::PAT) {
-        return true;
-    }
-    next_is(table, p, bytes::DOTDOT)
+    p.next_is(table, Kind::Pat) || p.next_is(table, Kind::DotDot)
 }
 
 // The path in front of a tuple, if it has one.
@@ -75,17 +72,9 @@ pub fn path_if(
 )
     ensures { Walked src table fmt queue out p (eat (tree table) Kind.Path (path (tree table) 64)) }
 {
-    let k = eat(table, p, bytes::PATH);
-    if is_some(k) {
+    if let Some(k) = p.eat(table, Kind::Path) {
         path(src, table, fmt, queue, out, k, 64);
     }
-}
-
-// None, one, or more: the Rust counts on.
-pub fn more(count: u8) -> u8
-    ensures { few_of result ≡ more (few_of count) }
-{
-    if count < 2 { count + 1 } else { 2 }
 }
 
 // Behind the last item: the comma of a single one may stay.
@@ -96,20 +85,18 @@ pub fn close_tuple(
     queue: &mut Queue,
     out: &mut [u8],
     comma: Remaining,
-    count: u8,
+    count: Few,
     trailing: bool,
 )
-    ensures { Made src table fmt queue out (tuple_end trailing (few_of count) (remaining_of Mark.Comma comma)) }
+    ensures { Made src table fmt queue out (tuple_end trailing count (remaining_of Mark.Comma comma)) }
 {
-    if count == 1 {
-        if trailing {
-            put(src, table, fmt, queue, out, comma, Mark::Comma);
-            return;
+    match count {
+        Few::Zero => {
+            pass(src, table, fmt, queue, out, comma);
+            comments(src, table, fmt, queue, out, Hint::Infix);
         }
-    }
-    pass(src, table, fmt, queue, out, comma);
-    if count == 0 {
-        comments(src, table, fmt, queue, out, Hint::Infix);
+        Few::One => write_only_if(src, table, fmt, queue, out, comma, Mark::Comma, trailing),
+        Few::Many => pass(src, table, fmt, queue, out, comma),
     }
 }
 
@@ -124,8 +111,8 @@ pub fn object_name(
 )
     ensures { Walked src table fmt queue out p (object_name (tree table)) }
 {
-    if next_is(table, p, bytes::ANON_KEY) {
-        token(src, table, fmt, queue, out, p, bytes::ANON_KEY);
+    if p.next_is(table, Kind::AnonymousObjectKey) {
+        token(src, table, fmt, queue, out, p, Kind::AnonymousObjectKey);
         return;
     }
     next_path(src, table, fmt, queue, out, p);
@@ -136,10 +123,7 @@ pub fn object_name(
 pub fn key_or_dots(table: &[u32], p: &Stream) -> bool
     ensures { result ≡ next_is (key_or_dots (tree table)) (stream_here table p) }
 {
-    if next_is(table, p, bytes::OBJ_KEY) {
-        return true;
-    }
-    next_is(table, p, bytes::DOTDOT)
+    p.next_is(table, Kind::ObjectKey) || p.next_is(table, Kind::DotDot)
 }
 
 // Behind the last key: a space, or comments where there is none.
@@ -154,7 +138,7 @@ pub fn close_object(
     ensures { Made src table fmt queue out (object_closing (remaining_of Mark.Comma comma)) }
 {
     pass(src, table, fmt, queue, out, comma);
-    if says(comma) {
+    if comma.says() {
         ws(src, table, fmt, queue, out);
         return;
     }

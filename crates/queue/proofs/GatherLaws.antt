@@ -1,4 +1,5 @@
 -- Collecting: what each record of the tree does to it, and the loop under way. Assumes nothing.
+use Rattle.std.specs.Prelude.{Err}
 use Rattle.text.proofs.Base.{◌≡◌, refl, sym, ap, ◌∙◌, List, [], ◌∷◌, ◌++◌, Bool, true, false, cond, ℕ, zero, suc, ◌+◌, ◌-◌, ◌<◌, ◌≤◌, arith}
 use Rattle.text.proofs.Base.{length, take, eqb}
 use mathlib.Core.List.{append-nil, append_assoc}
@@ -8,11 +9,11 @@ use lib.Seq.{drop-cons, take-append-le}
 use Rattle.text.specs.{Span.text_of, Lines.newlines, declared.span.Span.Span}
 use Rattle.tree.specs.{declared.record.Record.Record, Records.cut_record, Table.node_of}
 use Rattle.meaning.specs.{declared.answer.Refusal.Refusal, declared.answer.Refusal.TheVariants.QueueFull}
-use Rattle.meaning.specs.{declared.answer.Answer.TheVariants.Refused, State.Script, State.Note, State.Comment, State.queued, State.State}
+use Rattle.meaning.specs.{State.Script, State.Note, State.Comment, State.queued, State.State}
 use Rattle.meaning.specs.{State.with_queue, State.with_lines, Outcome.Outcome, Outcome.refused, Collect.Met, Collect.inner, Collect.remark}
 use Rattle.meaning.specs.{Collect.blank, Collect.stop, Collect.met_at, Collect.met_of, Collect.met_from, Collect.Collected, Collect.full}
 use Rattle.meaning.specs.{Collect.got, Collect.before, Collect.or_else, Collect.collect, Collect.on_got, Collect.collected, Collect.gather}
-use Rattle.lent.specs.{Run.Run, Run.answered, Run.collected_run, View.ring_at, View.queue_of, View.view}
+use Rattle.lent.specs.{declared.formatter.Formatter.Formatter, Run.answered, Run.collected_run, View.ring_at, View.queue_of, View.view}
 use Rattle.queue.specs.{Met.as_met, Parts.Gathered}
 use Rattle.queue.specs.{Parts.Collects}
 use Rattle.queue.specs.declared.collect.Met as met
@@ -24,11 +25,11 @@ pub at_inner : (below kind : ℕ) (span : Span) (n : ℕ) → 0 < below → inne
 at_inner zero kind span n h = absurd (omega arith)
 at_inner (suc below) kind span n h = refl
 
-pub at_stop : (kind : ℕ) (span : Span) (n : ℕ) → (kind ≡ 0 → ⊥) → (kind ≡ 1 → ⊥) → (kind ≡ 2 → ⊥) → stop ≡ met_at 0 kind span n
-at_stop zero span n a b c = absurd (a refl)
-at_stop (suc zero) span n a b c = absurd (b refl)
-at_stop (suc (suc zero)) span n a b c = absurd (c refl)
-at_stop (suc (suc (suc kind))) span n a b c = refl
+pub at_stop : (kind : ℕ) (span : Span) (n : ℕ) → 3 ≤ kind → stop ≡ met_at 0 kind span n
+at_stop zero span n h = absurd (omega arith)
+at_stop (suc zero) span n h = absurd (omega arith)
+at_stop (suc (suc zero)) span n h = absurd (omega arith)
+at_stop (suc (suc (suc kind))) span n h = refl
 
 newlines_few : (t : List ℕ) → newlines t ≤ length t
 unfolding newlines
@@ -93,15 +94,15 @@ go_end x i s k h = rw (rest_none x i h, append-nil)
 
 -- ---- the loop under way: from `from` on is as much as from i on, with what is in hand
 
-pub record Gathering (x : Script) (from : ℕ) (run : Run) (q₀ q : List ℕ) (i lines count : ℕ) : Type 0 where
+pub record Gathering (x : Script) (from : ℕ) (run : Formatter) (q₀ q : List ℕ) (i lines count : ℕ) : Type 0 where
   pub out : (k : State → Outcome) → gather x from (view run q₀) k ≡ gather x i (view (collected_run run lines count) q) k
   pub kept : queue_of q run.head run.count ≡ queue_of q₀ run.head run.count
   pub more : run.count ≤ count
 
-pub gather_start : {x : Script} {from : ℕ} {run : Run} {q₀ : List ℕ} → Gathering x from run q₀ q₀ from run.lines run.count
+pub gather_start : {x : Script} {from : ℕ} {run : Formatter} {q₀ : List ℕ} → Gathering x from run q₀ q₀ from run.lines run.count
 gather_start = record { out = λ k. refl; kept = refl; more = omega arith }
 
-module _ {x : Script} {from : ℕ} {run : Run} {q₀ q : List ℕ} {i lines count : ℕ} (g : Gathering x from run q₀ q i lines count) where
+module _ {x : Script} {from : ℕ} {run : Formatter} {q₀ q : List ℕ} {i lines count : ℕ} (g : Gathering x from run q₀ q i lines count) where
   module _ (r : Record) (e : met.Met) (h : i < length x.tree) (er : r ≡ node_of x.tree i) (ee : as_met r.span e ≡ met_of x.source r) where
     found : {y : Met} → as_met r.span e ≡ y → met_of x.source (node_of x.tree i) ≡ y
     found y = ap (met_of x.source) (sym er) ∙ sym ee ∙ y
@@ -129,21 +130,21 @@ module _ {x : Script} {from : ℕ} {run : Run} {q₀ q : List ℕ} {i lines coun
           more = omega arith;
         }
 
-    pub gather_stop : {o : Run} → as_met r.span e ≡ stop → o ≡ collected_run run lines count → Gathered x from run q₀ o q
+    pub gather_stop : {o : Formatter} → as_met r.span e ≡ stop → o ≡ collected_run run lines count → Gathered x from run q₀ o q
     gather_stop y eo = rw eo (record { out = λ a k. g.out k ∙ go_stop x i _ k h (found y) ∙ rw a; kept = g.kept; long = refl })
 
-    pub gather_full : {o : Run} (line : Bool) → as_met r.span e ≡ remark (record { span = r.span; line = line }) → 256 ≤ count → o ≡ answered run (Refused (QueueFull (record { 0 = i }))) → Gathered x from run q₀ o q
+    pub gather_full : {o : Formatter} (line : Bool) → as_met r.span e ≡ remark (record { span = r.span; line = line }) → 256 ≤ count → o ≡ answered run (Err (QueueFull (record { 0 = i }))) → Gathered x from run q₀ o q
     gather_full line y l eo =
         let n : length (queue_of q run.head count) ≡ count = length_tab (ring_at q) run.head count in
         rw eo (record { out = λ a k. g.out k ∙ go_full x i _ k h _ (found y) (omega arith); kept = g.kept; long = refl })
 
-  pub gather_end : {o : Run} → length x.tree ≤ i → o ≡ collected_run run lines count → Gathered x from run q₀ o q
+  pub gather_end : {o : Formatter} → length x.tree ≤ i → o ≡ collected_run run lines count → Gathered x from run q₀ o q
   gather_end h eo = rw eo (record { out = λ a k. g.out k ∙ go_end x i _ k h ∙ rw a; kept = g.kept; long = refl })
 
--- ---- over the lent words
+-- ---- over what is lent
 
-module _ {x : Script} {i lines : ℕ} {run : Run} {q q' : List ℕ} {r : Run} where
-  pub collected_full : {e : Refusal} → r ≡ answered run (Refused e) → Gathered x i (collected_run run lines run.count) q (answered (collected_run run lines run.count) (Refused e)) q' → Collects x i lines run q true r q'
+module _ {x : Script} {i lines : ℕ} {run : Formatter} {q q' : List ℕ} {r : Formatter} where
+  pub collected_full : {e : Refusal} → r ≡ answered run (Err e) → Gathered x i (collected_run run lines run.count) q (answered (collected_run run lines run.count) (Err e)) q' → Collects x i lines run q true r q'
   collected_full er g = rw er (record {
     gathered = record { out = g.out; kept = g.kept; long = refl };
     told = λ a. refl;

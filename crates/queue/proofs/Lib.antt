@@ -2,5 +2,4 @@ pub mod StepLaws
 pub mod PassLaws
 pub mod ReleaseLaws
 pub mod GatherLaws
-pub mod GapLaws
 pub mod OneLaws

@@ -1,13 +1,14 @@
 -- A release's two passes over the ring, comment by comment. Assumes nothing.
-use Rattle.text.proofs.Base.{◌≡◌, refl, sym, ap, ◌∙◌, List, [], ◌∷◌, ◌++◌, Bool, true, false, cond, ℕ, ◌+◌, ◌-◌, ◌<◌, ◌≤◌, arith}
+use Rattle.text.proofs.Base.{◌≡◌, refl, sym, ap, ◌∙◌, List, [], ◌∷◌, ◌++◌, Bool, true, false, cond, ℕ, ◌+◌, ◌<◌, ◌≤◌, arith}
 use Rattle.text.proofs.Base.{length, ltb, eqb, lt-ltb, le-ltb, ltb-true}
 use native.Mathlib.Nat.{add-zero}
 use lib.ListN.{length-append}
 use lib.Seq.{sets, length-sets}
 use Rattle.meaning.specs.{State.Comment}
-use Rattle.queue.specs.{declared.release.Way.Way, declared.release.Fit.TheVariants.Past}
+use Rattle.std.specs.Prelude.{None, Some}
+use Rattle.queue.specs.{declared.release.Way.Way, declared.release.Fit.Fit}
 use Rattle.lent.specs.{declared.room.Gap.Gap, View.gap_bytes}
-use Rattle.queue.specs.{declared.release.Fit.TheVariants.Goes, Passes.stop_of, Passes.front_of}
+use Rattle.queue.specs.{Passes.stop_of, Passes.front_of}
 use Rattle.queue.specs.{Passes.gap_of, Passes.letters_of, Passes.bytes_on, Passes.bytes_from, Passes.going, Passes.reach}
 use Rattle.queue.specs.{Passes.Measured}
 use Rattle.lent.proofs.WriteLaws.{laid_length, sets_append}
@@ -27,12 +28,17 @@ going_none : (w : Way) → going w [] ≡ []
 unfolding going
 going_none w = refl
 
--- what is found, by the test of room
-pub fit_goes : (t : Bool) (a b n len : ℕ) → cond t Past (Goes a b) ≡ Goes n len → (t ≡ false) × (n ≡ a) × (len ≡ b)
-fit_goes true a b n len e = let z : ◌≡◌ {A = ℕ} 0 1 = cc in absurd (omega arith)
-fit_goes false a b n len e = (refl, cc, cc)
+abbrev pub fit : ℕ → ℕ → Fit
+fit n len = record { count = n; len = len }
 
-pub fit_past : (t : Bool) (a b : ℕ) → cond t Past (Goes a b) ≡ Past → t ≡ true
+-- what is found, by the test of room
+pub fit_goes : (t : Bool) (a b n len : ℕ) → cond t None (Some (fit a b)) ≡ Some (fit n len) → (t ≡ false) × (n ≡ a) × (len ≡ b)
+fit_goes true a b n len e = let z : ◌≡◌ {A = ℕ} 0 1 = cc in absurd (omega arith)
+fit_goes false a b n len e =
+    let y : fit a b ≡ fit n len = cc in
+    (refl, sym (ap (λ (f : Fit). f.count) y), sym (ap (λ (f : Fit). f.len) y))
+
+pub fit_past : (t : Bool) (a b : ℕ) → cond t None (Some (fit a b)) ≡ None → t ≡ true
 fit_past true a b e = refl
 fit_past false a b e = let z : ◌≡◌ {A = ℕ} 0 1 = cc in absurd (omega arith)
 
@@ -84,30 +90,30 @@ module _ (src : List ℕ) (w : Way) (ind : ℕ) where
           within = l;
         }
 
-    done_with : {len : ℕ} {front : Bool} {i : ℕ} {cs : List Comment} → going w cs ≡ [] → Measuring cap len₀ cs₀ len front i cs → Measured src w ind len₀ cap cs₀ (Goes i len)
+    done_with : {len : ℕ} {front : Bool} {i : ℕ} {cs : List Comment} → going w cs ≡ [] → Measuring cap len₀ cs₀ len front i cs → Measured src w ind len₀ cap cs₀ (Some (fit i len))
     done_with {len} {front} {i} {cs} g a =
         let z : reach src w ind (front_of w) len₀ (going w cs₀) ≡ len = sym (sym (reach_none front len) ∙ ap (reach src w ind front len) (sym g) ∙ a.reached) in
         let n : length (going w cs₀) ≡ i = omega (arith, a.counted, ap length g) in
         record { out = rw (z, n, le-ltb cap len a.within) }
 
-    pub measure_stop : {len : ℕ} {front : Bool} {i : ℕ} {cs cs' : List Comment} {c : Comment} → cs ≡ c ∷ cs' → stop_of w c ≡ true → Measuring cap len₀ cs₀ len front i cs → Measured src w ind len₀ cap cs₀ (Goes i len)
+    pub measure_stop : {len : ℕ} {front : Bool} {i : ℕ} {cs cs' : List Comment} {c : Comment} → cs ≡ c ∷ cs' → stop_of w c ≡ true → Measuring cap len₀ cs₀ len front i cs → Measured src w ind len₀ cap cs₀ (Some (fit i len))
     measure_stop {len} {front} {i} {cs} {cs'} {c} e h a = done_with (ap (going w) e ∙ going_stop w c cs' h) a
 
-    pub measure_end : {len : ℕ} {front : Bool} {i : ℕ} {cs : List Comment} → cs ≡ [] → Measuring cap len₀ cs₀ len front i cs → Measured src w ind len₀ cap cs₀ (Goes i len)
-    measure_end e a = done_with (ap (going w) e ∙ going_none w) a
+    pub measure_end : {len : ℕ} {front : Bool} {i n : ℕ} {cs : List Comment} → cs ≡ [] → n ≡ i → Measuring cap len₀ cs₀ len front i cs → Measured src w ind len₀ cap cs₀ (Some (fit n len))
+    measure_end e k a = rw k (done_with (ap (going w) e ∙ going_none w) a)
 
-    over_so : cap < reach src w ind (front_of w) len₀ (going w cs₀) → Measured src w ind len₀ cap cs₀ Past
+    over_so : cap < reach src w ind (front_of w) len₀ (going w cs₀) → Measured src w ind len₀ cap cs₀ None
     over_so h = record { out = rw (lt-ltb cap (reach src w ind (front_of w) len₀ (going w cs₀)) h) }
 
     pub measure_over : {len : ℕ} {front : Bool} {i : ℕ} {cs cs' : List Comment} {c : Comment} {g : Gap} {t : List ℕ} → cs ≡ c ∷ cs' → stop_of w c ≡ false → Put front len c g t → ltb cap (len + (g.lines + g.spaces) + length t) ≡ true
-        → Measuring cap len₀ cs₀ len front i cs → Measured src w ind len₀ cap cs₀ Past
+        → Measuring cap len₀ cs₀ len front i cs → Measured src w ind len₀ cap cs₀ None
     measure_over {len} {front} {i} {cs} {cs'} {c} {g} {t} e h p l a =
         let y : going w cs ≡ c ∷ going w cs' = ap (going w) e ∙ going_more w c cs' h in
         let r : reach src w ind true (len + (g.lines + g.spaces) + length t) (going w cs') ≡ reach src w ind (front_of w) len₀ (going w cs₀) = sym (reach_more p (going w cs')) ∙ ap (reach src w ind front len) (sym y) ∙ a.reached in
         let k : cap < len + (g.lines + g.spaces) + length t = ltb-true cap _ l in
         over_so (omega arith)
 
-    pub measure_full : cap < len₀ → Measured src w ind len₀ cap cs₀ Past
+    pub measure_full : cap < len₀ → Measured src w ind len₀ cap cs₀ None
     measure_full h = over_so (omega arith)
 
   -- ---- the second pass: cs of cs₀ are yet to be written

@@ -1,30 +1,30 @@
 -- A release, whole: the two passes leave what the meaning's line release or space release leaves. Assumes nothing.
-use Rattle.text.proofs.Base.{◌≡◌, refl, sym, ap, ◌∙◌, List, [], ◌∷◌, ◌++◌, Bool, true, false, cond, not, ◌&&◌, ℕ, zero, suc, ◌+◌, ◌-◌, ◌%◌, ◌<◌}
+use Rattle.text.proofs.Base.{◌≡◌, refl, sym, ap, ◌∙◌, List, [], ◌∷◌, ◌++◌, Bool, true, false, cond, ◌&&◌, ℕ, zero, suc, ◌+◌, ◌-◌, ◌%◌, ◌<◌}
 use Rattle.text.proofs.Base.{◌≤◌, arith, length, take, drop, ltb, eqb, lt-ltb, le-ltb, ltb-true}
 use mathlib.Core.List.{append_assoc, append-nil}
 use native.Mathlib.Nat.{zero-add}
 use lib.ListN.{length-append}
 use lib.Seq.{sets}
 use lib.Dec.{eqb-suc-zero}
-use Rattle.meaning.specs.{declared.answer.Refusal.TheVariants.NoRoom, declared.answer.Answer.Answer, declared.answer.Answer.TheVariants.Done}
-use Rattle.meaning.specs.{declared.answer.Answer.TheVariants.Refused, State.Comment, State.State, State.with_queue, State.with_len}
+use Rattle.meaning.specs.{declared.answer.Refusal.TheVariants.NoRoom, Answer.Answer}
+use Rattle.meaning.specs.{State.Comment, State.State, State.with_queue, State.with_len}
 use Rattle.meaning.specs.{Pieces.gap, Pieces.flat}
 use Rattle.meaning.specs.{Outcome.refuse_if, Release.take_until, Release.drop_until, Release.is_nil, Release.is_empty, Release.comment_text}
 use Rattle.meaning.specs.{Release.stop_line, Release.stop_space, Release.line_gap, Release.trimmed, Release.line_pieces, Release.space_gap}
 use Rattle.meaning.specs.{Release.space_pieces, Release.behind_gap, World.world, World.result, World.made}
 use Rattle.meaning.proofs.Laws.{flat_append}
-use Rattle.lent.specs.{Run.Run, Run.answered, Run.let_out_run, declared.room.Gap.Gap}
+use Rattle.lent.specs.{declared.formatter.Formatter.Formatter, Run.answered, Run.let_out_run, declared.room.Gap.Gap}
 use Rattle.queue.specs.{declared.release.Way.Way}
 use Rattle.queue.specs.{declared.release.Way.TheVariants.Lines, declared.release.Way.TheVariants.Spaces}
 use Rattle.lent.specs.{View.tab, View.ring_at, View.queue_of}
-use Rattle.queue.specs.{declared.release.Fit.TheVariants.Past, declared.release.Fit.TheVariants.Goes}
+use Rattle.std.specs.Prelude.{None, Some, Ok, Err}
 use Rattle.lent.specs.{View.view, View.result_of, View.gap_bytes, View.Laid}
 use Rattle.queue.specs.{Passes.release_of, Passes.stop_of, Passes.front_of, Passes.back_of}
 use Rattle.queue.specs.{Passes.bytes_on, Passes.bytes_from, Passes.going, Passes.reach, Passes.written, Passes.Measured}
 use Rattle.queue.specs.{Parts.LetsOut, Parts.settles, Parts.onward}
 use Rattle.lent.proofs.{WriteLaws.sets_append, WriteLaws.gap_length, TabLaws.length_tab, TabLaws.drop_tab, TabLaws.take_tab}
 use Rattle.lent.proofs.{RingLaws.head_mod}
-use Rattle.queue.proofs.{StepLaws.open_steps, PassLaws.fit_goes, PassLaws.fit_past}
+use Rattle.queue.proofs.{StepLaws.open_steps, PassLaws.fit, PassLaws.fit_goes, PassLaws.fit_past}
 
 -- ---- the flag that the output is empty is a test of its length
 
@@ -131,34 +131,34 @@ module _ (w : Way) (q : List ℕ) (h n k : ℕ) (e : k ≡ length (going w (queu
 -- ---- the outcome
 
 module _ (src : List ℕ) (w : Way) (s : State) (b : List ℕ) where
-  no_room : ltb (length b) (s.len + length (written src w s)) ≡ true → made (world s b) (settles (length b) s (release_of src w s) (λ s'. s')) ≡ result (Refused (NoRoom s.len)) (world s b)
+  no_room : ltb (length b) (s.len + length (written src w s)) ≡ true → made (world s b) (settles (length b) s (release_of src w s) (λ s'. s')) ≡ result (Err (NoRoom s.len)) (world s b)
   unfolding refuse_if
   no_room h = rw (release_state src w s, h)
 
   moved : ltb (length b) (s.len + length (written src w s)) ≡ false → made (world s b) (settles (length b) s (release_of src w s) (λ s'. s'))
-      ≡ result Done (world (with_len (with_queue s (drop_until (stop_of w) s.queue)) (s.len + length (written src w s))) (sets b s.len (written src w s)))
+      ≡ result (Ok tt) (world (with_len (with_queue s (drop_until (stop_of w) s.queue)) (s.len + length (written src w s))) (sets b s.len (written src w s)))
   unfolding refuse_if
   moved h = rw (release_state src w s, h, release_flat src w s)
 
-same_done : (s : State) (len len' : ℕ) (cs cs' : List Comment) (b b' : List ℕ) → len ≡ len' → cs ≡ cs' → b ≡ b' → result Done (world (with_len (with_queue s cs) len) b) ≡ result Done (world (with_len (with_queue s cs') len') b')
+same_done : (s : State) (len len' : ℕ) (cs cs' : List Comment) (b b' : List ℕ) → len ≡ len' → cs ≡ cs' → b ≡ b' → result (Ok tt) (world (with_len (with_queue s cs) len) b) ≡ result (Ok tt) (world (with_len (with_queue s cs') len') b')
 same_done s len len' cs cs' b b' e1 e2 e3 = rw (e1, e2, e3)
 
-module _ (src : List ℕ) (w : Way) (q : List ℕ) (run : Run) (b : List ℕ) (open-yet : run.answer ≡ Done) where
+module _ (src : List ℕ) (w : Way) (q : List ℕ) (run : Formatter) (b : List ℕ) (open-yet : run.answer ≡ Ok tt) where
   steps_are : onward (λ cap s. settles cap s (release_of src w s) (λ s'. s')) (result_of run q b) ≡ made (world (view run q) b) (settles (length b) (view run q) (release_of src w (view run q)) (λ s'. s'))
   steps_are = open_steps _ run.answer (world (view run q) b) open-yet
 
-  over : {o : Run} → length b < run.len + length (written src w (view run q)) → o ≡ answered run (Refused (NoRoom run.len)) → LetsOut src w q run b o b
+  over : {o : Formatter} → length b < run.len + length (written src w (view run q)) → o ≡ answered run (Err (NoRoom run.len)) → LetsOut src w q run b o b
   over h e = record { out = rw e (sym (steps_are ∙ no_room src w (view run q) b (lt-ltb _ _ h))); stays = λ _. rw e }
 
   -- the first pass found no room
-  pub release_past : {o : Run} → Measured src w run.indent run.len (length b) (queue_of q run.head run.count) Past → o ≡ answered run (Refused (NoRoom run.len)) → LetsOut src w q run b o b
+  pub release_past : {o : Formatter} → Measured src w run.indent run.len (length b) (queue_of q run.head run.count) None → o ≡ answered run (Err (NoRoom run.len)) → LetsOut src w q run b o b
   release_past f e =
       let g = going w (queue_of q run.head run.count) in
       let h : length b < reach src w run.indent (front_of w) run.len (going w (queue_of q run.head run.count)) = ltb-true _ _ (fit_past _ _ _ (sym f.out)) in
       let l : length (written src w (view run q)) ≡ _ = length-append (bytes_from src w run.indent (front_of w) run.len (going w (queue_of q run.head run.count))) (back_of w (length (going w (queue_of q run.head run.count)))) in
       over (omega arith) e
 
-  module _ (n len : ℕ) (g : Gap) (f : Measured src w run.indent run.len (length b) (queue_of q run.head run.count) (Goes n len)) (eg : gap_bytes g ≡ back_of w n) where
+  module _ (n len : ℕ) (g : Gap) (f : Measured src w run.indent run.len (length b) (queue_of q run.head run.count) (Some (fit n len))) (eg : gap_bytes g ≡ back_of w n) where
     counted : n ≡ length (going w (queue_of q run.head run.count))
     counted = (fit_goes (ltb (length b) (reach src w run.indent (front_of w) run.len (going w (queue_of q run.head run.count)))) (length (going w (queue_of q run.head run.count))) (reach src w run.indent (front_of w) run.len (going w (queue_of q run.head run.count))) n len (sym f.out)).1
 
@@ -175,7 +175,7 @@ module _ (src : List ℕ) (w : Way) (q : List ℕ) (run : Run) (b : List ℕ) (o
         omega (arith, reached)
 
     -- the space behind does not fit
-    pub release_over : {o : Run} → ltb (length b) (len + (g.lines + g.spaces) + 0) ≡ true → o ≡ answered run (Refused (NoRoom run.len)) → LetsOut src w q run b o b
+    pub release_over : {o : Formatter} → ltb (length b) (len + (g.lines + g.spaces) + 0) ≡ true → o ≡ answered run (Err (NoRoom run.len)) → LetsOut src w q run b o b
     release_over h e = over (omega (arith, ltb-true (length b) (len + (g.lines + g.spaces) + 0) h, total)) e
 
     -- there is room for the second pass
@@ -185,7 +185,7 @@ module _ (src : List ℕ) (w : Way) (q : List ℕ) (run : Run) (b : List ℕ) (o
     pub release_few : n ≤ run.count
     release_few = going_few w q run.head run.count n counted
 
-    pub release_done : {o : Run} {b1 b2 : List ℕ} {end : ℕ} → len + (g.lines + g.spaces) + 0 ≤ length b
+    pub release_done : {o : Formatter} {b1 b2 : List ℕ} {end : ℕ} → len + (g.lines + g.spaces) + 0 ≤ length b
         → b1 ≡ sets b run.len (bytes_from src w run.indent (front_of w) run.len (queue_of q run.head n)) → Laid b1 len g [] end b2 → o ≡ let_out_run run n end
         → LetsOut src w q run b o b2
     release_done {o} {b1} {b2} {end} h h1 h2 eo =
@@ -217,21 +217,21 @@ module _ (src : List ℕ) (w : Way) (s : State) (b : List ℕ) (none : going w s
   unfolding going
   all_stay = until_drop (stop_of w) s.queue ∙ ap (λ (cs : List Comment). drop (length cs) s.queue) none
 
-  idle : made (world s b) (settles (length b) s (release_of src w s) (λ s'. s')) ≡ result Done (world s b)
+  idle : made (world s b) (settles (length b) s (release_of src w s) (λ s'. s')) ≡ result (Ok tt) (world s b)
   idle =
       let z : s.len + length (written src w s) ≡ s.len = omega (arith, ap length none_written) in
       moved src w s b (le-ltb (length b) (s.len + length (written src w s)) (omega arith)) ∙ same_done s _ s.len _ s.queue _ b z all_stay (ap (sets b s.len) none_written)
 
 -- a release changes nothing then, refused already or not
-pub release_none : (src : List ℕ) (w : Way) (q : List ℕ) (run : Run) (b : List ℕ) → going w (queue_of q run.head run.count) ≡ [] → run.len ≤ length b → LetsOut src w q run b run b
+pub release_none : (src : List ℕ) (w : Way) (q : List ℕ) (run : Formatter) (b : List ℕ) → going w (queue_of q run.head run.count) ≡ [] → run.len ≤ length b → LetsOut src w q run b run b
 unfolding onward
 release_none src w q run b none l = record { out = go run.answer; stays = λ _. refl }
   where
     go : (a : Answer) → result a (world (view run q) b) ≡ onward (λ cap s. settles cap s (release_of src w s) (λ s'. s')) (result a (world (view run q) b))
-    go Done = sym (idle src w (view run q) b none l)
-    go (Refused e) = refl
+    go (Ok tt) = sym (idle src w (view run q) b none l)
+    go (Err e) = refl
 
 -- nothing waits
-pub release_idle : (src : List ℕ) (w : Way) (q : List ℕ) (run : Run) (b : List ℕ) {n len : ℕ} → n ≡ run.count → n ≡ 0 → len ≡ run.len → len ≤ length b → LetsOut src w q run b run b
+pub release_idle : (src : List ℕ) (w : Way) (q : List ℕ) (run : Formatter) (b : List ℕ) {n len : ℕ} → n ≡ run.count → n ≡ 0 → len ≡ run.len → len ≤ length b → LetsOut src w q run b run b
 unfolding going tab
 release_idle src w q run b e h k l = let z : run.count ≡ 0 = sym e ∙ h in release_none src w q run b (rw z) (omega arith)

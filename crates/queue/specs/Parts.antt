@@ -1,8 +1,7 @@
 -- What the parts of a call promise: the result they leave is what that part of the meaning leaves. Assumes nothing.
-use Rattle.std.specs.Prelude.{◌≡◌, ℕ, Bool, true, false, List, [], ◌∷◌, length}
+use Rattle.std.specs.Prelude.{◌≡◌, ℕ, Bool, true, false, List, [], ◌∷◌, length, Ok, Err}
 use Rattle.tree.specs.declared.record.RecordNo.{RecordNo}
-use Rattle.meaning.specs.declared.answer.Answer.{Answer}
-use Rattle.meaning.specs.declared.answer.Answer.TheVariants.{Done, Refused}
+use Rattle.meaning.specs.Answer.{Answer}
 use Rattle.meaning.specs.State.{Script, State}
 use Rattle.meaning.specs.Pieces.{gap, text, Emit, emit}
 use Rattle.meaning.specs.Outcome.{Outcome, refused}
@@ -11,9 +10,9 @@ use Rattle.meaning.specs.Flush.{flush}
 use Rattle.meaning.specs.Calls.{settle, write_node}
 use Rattle.meaning.specs.World.{world, capacity, Result, made}
 use Rattle.meaning.specs.Plan.{go_on}
-use Rattle.lent.specs.Run.{Run, is_refused, answered, collected_run}
-use Rattle.lent.specs.Words.{run_of}
-use Rattle.lent.specs.Loans.{Loan, MutLoan, script}
+use Rattle.lent.specs.declared.formatter.Formatter.{Formatter}
+use Rattle.lent.specs.Run.{is_refused, answered, collected_run}
+use Rattle.lent.specs.Loans.{Loan, MutLoan, FormatterLoan, script}
 use Rattle.lent.specs.declared.room.Gap.{Gap}
 use Rattle.queue.specs.declared.release.Way.{Way}
 use Rattle.queue.specs.Passes.{release_of}
@@ -28,52 +27,52 @@ abbrev pub settles : ℕ → State → Emit → (State → State) → Outcome
 settles cap s e f = settle (record { source = []; tree = [] }) cap s e f
 
 -- a release, from the run and the buffer b; a refused one changes nothing but the answer
-pub record LetsOut (src : List ℕ) (w : Way) (q : List ℕ) (run : Run) (b : List ℕ) (r : Run) (b' : List ℕ) : Type 0 where
+pub record LetsOut (src : List ℕ) (w : Way) (q : List ℕ) (run : Formatter) (b : List ℕ) (r : Formatter) (b' : List ℕ) : Type 0 where
   pub out : result_of r q b' ≡ onward (λ cap s. settles cap s (release_of src w s) (λ s'. s')) (result_of run q b)
   pub stays : is_refused r.answer ≡ true → r ≡ answered run r.answer
 
-abbrev pub Released : Loan → MutLoan → Loan → MutLoan → Way → Type 0
+abbrev pub Released : Loan → FormatterLoan → Loan → MutLoan → Way → Type 0
 Released src fmt queue out w =
-    LetsOut src.entry.now w queue.entry.now (run_of fmt.entry.now) out.entry.now (run_of fmt.exit.now) out.exit.now
+    LetsOut src.entry.now w queue.entry.now fmt.entry.now out.entry.now fmt.exit.now out.exit.now
 
 -- a flush and a text, whatever the ring holds
-pub record PutText (preserve : Bool) (t : List ℕ) (run : Run) (b : List ℕ) (r : Run) (b' : List ℕ) : Type 0 where
+pub record PutText (preserve : Bool) (t : List ℕ) (run : Formatter) (b : List ℕ) (r : Formatter) (b' : List ℕ) : Type 0 where
   pub out : (q : List ℕ) → result_of r q b' ≡ onward (λ cap s. settles cap s (flush preserve s (text t ∷ [])) (λ s'. s')) (result_of run q b)
 
-abbrev pub Put : MutLoan → MutLoan → Bool → Loan → Type 0
-Put fmt out preserve t = PutText preserve t.entry.now (run_of fmt.entry.now) out.entry.now (run_of fmt.exit.now) out.exit.now
+abbrev pub Put : FormatterLoan → MutLoan → Bool → Loan → Type 0
+Put fmt out preserve t = PutText preserve t.entry.now fmt.entry.now out.entry.now fmt.exit.now out.exit.now
 
 abbrev pub on_answer : Answer → Outcome → Outcome
-on_answer Done o = o
-on_answer (Refused e) o = refused e
+on_answer (Ok tt) o = o
+on_answer (Err e) o = refused e
 
 -- collecting from record i on: what comes of it goes on as the meaning says, and the comments that waited still stand in the ring
-pub record Gathered (x : Script) (i : ℕ) (run : Run) (q : List ℕ) (r : Run) (q' : List ℕ) : Type 0 where
-  pub out : run.answer ≡ Done → (k : State → Outcome) → gather x i (view run q) k ≡ on_answer r.answer (k (view r q'))
+pub record Gathered (x : Script) (i : ℕ) (run : Formatter) (q : List ℕ) (r : Formatter) (q' : List ℕ) : Type 0 where
+  pub out : run.answer ≡ Ok tt → (k : State → Outcome) → gather x i (view run q) k ≡ on_answer r.answer (k (view r q'))
   pub kept : queue_of q' run.head run.count ≡ queue_of q run.head run.count
   pub long : r.len ≡ run.len
 
 -- from record i on, with so many newlines in hand: only `lines` and `count` change, or only the answer
-pub record Collects (x : Script) (i lines : ℕ) (run : Run) (q : List ℕ) (stop : Bool) (r : Run) (q' : List ℕ) : Type 0 where
+pub record Collects (x : Script) (i lines : ℕ) (run : Formatter) (q : List ℕ) (stop : Bool) (r : Formatter) (q' : List ℕ) : Type 0 where
   pub gathered : Gathered x i (collected_run run lines run.count) q r q'
-  pub told : run.answer ≡ Done → stop ≡ is_refused r.answer
+  pub told : run.answer ≡ Ok tt → stop ≡ is_refused r.answer
   pub full : stop ≡ true → r ≡ answered run r.answer
   pub rest : stop ≡ false → r ≡ collected_run run r.lines r.count
 
-abbrev pub Collected : Loan → Loan → MutLoan → MutLoan → ℕ → ℕ → Bool → Type 0
+abbrev pub Collected : Loan → Loan → FormatterLoan → MutLoan → ℕ → ℕ → Bool → Type 0
 Collected src table fmt queue i lines stop =
-    Collects (script src table) i lines (run_of fmt.entry.now) queue.entry.now stop (run_of fmt.exit.now) queue.exit.now
+    Collects (script src table) i lines fmt.entry.now queue.entry.now stop fmt.exit.now queue.exit.now
 
 -- two runs that differ in the hints only
-pub record Beside (run next : Run) : Type 0 where
+pub record Beside (run next : Formatter) : Type 0 where
   pub answer : next.answer ≡ run.answer
   pub len : next.len ≡ run.len
   pub head : next.head ≡ run.head
   pub count : next.count ≡ run.count
 
 -- a gap and node k's text written, with the hints of `next`, and what stands behind the node collected
-pub record WroteNode (x : Script) (k : RecordNo) (g : Gap) (next run : Run) (q b : List ℕ) (r : Run) (q' b' : List ℕ) : Type 0 where
-  pub out : run.answer ≡ Done → Beside run next
+pub record WroteNode (x : Script) (k : RecordNo) (g : Gap) (next run : Formatter) (q b : List ℕ) (r : Formatter) (q' b' : List ℕ) : Type 0 where
+  pub out : run.answer ≡ Ok tt → Beside run next
       → result_of r q' b'
       ≡ made (world (view run q) b) (write_node x (length b) k (view run q) (emit (view next q) (gap (gap_bytes g) ∷ text (node_text x k) ∷ [])))
   pub long : length b' ≡ length b

@@ -1,5 +1,5 @@
 -- A release as the code goes about it: one way for both kinds, and what is written at the output's length. Assumes nothing.
-use Rattle.std.specs.Prelude.{◌≡◌, ℕ, zero, suc, ◌+◌, Bool, true, false, cond, List, [], ◌∷◌, ◌++◌, length, ltb, eqb}
+use Rattle.std.specs.Prelude.{◌≡◌, ℕ, zero, suc, ◌+◌, Bool, true, false, cond, Option, None, Some, List, [], ◌∷◌, ◌++◌, length, ltb, eqb}
 use Rattle.meaning.specs.declared.call.Hint.{Hint}
 use Rattle.meaning.specs.declared.call.Hint.TheVariants.{Line, Prefix, Suffix, Infix}
 use Rattle.meaning.specs.State.{Comment, State}
@@ -8,7 +8,6 @@ use Rattle.meaning.specs.Release.{take_until, comment_text, stop_line, stop_spac
 use Rattle.queue.specs.declared.release.Way.{Way}
 use Rattle.queue.specs.declared.release.Way.TheVariants.{Lines, Spaces}
 use Rattle.queue.specs.declared.release.Fit.{Fit}
-use Rattle.queue.specs.declared.release.Fit.TheVariants.{Past, Goes}
 
 -- ---- the two releases
 
@@ -70,10 +69,10 @@ written src w s =
     bytes_from src w s.indent (front_of w) s.len cs ++ back_of w (length cs)
 
 -- what the first pass finds
-abbrev pub fit_of : List ℕ → Way → ℕ → ℕ → ℕ → List Comment → Fit
+abbrev pub fit_of : List ℕ → Way → ℕ → ℕ → ℕ → List Comment → Option Fit
 fit_of src w indent len cap cs =
     let to = reach src w indent (front_of w) len (going w cs) in
-    cond (ltb cap to) Past (Goes (length (going w cs)) to)
+    cond (ltb cap to) None (Some (record { count = length (going w cs); len = to }))
 
-pub record Measured (src : List ℕ) (w : Way) (indent len cap : ℕ) (cs : List Comment) (r : Fit) : Type 0 where
+pub record Measured (src : List ℕ) (w : Way) (indent len cap : ℕ) (cs : List Comment) (r : Option Fit) : Type 0 where
   pub out : r ≡ fit_of src w indent len cap cs

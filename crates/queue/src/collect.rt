@@ -6,7 +6,7 @@ ghost use Rattle.meaning.specs.Collect.{met_of, or_else};
 ghost use Rattle.queue.specs.Met.{as_met};
 ghost use Rattle.queue.specs.Parts.{Collected};
 
-use lent::formatter::{Formatter, collected, count, head, refused};
+use lent::formatter::Formatter;
 use lent::ring::{Comment, Queue, push};
 use meaning::answer::Refusal;
 use text::lines::count_newlines;
@@ -31,23 +31,20 @@ fn newlines_in(src: &[u8], span: Span) -> u32
     count_newlines(part(src, span)) as u32
 }
 
-// `write_comment`'s questions to a record: output.rs 332 to 359.
+// `write_comment`'s questions to a record: output.rs 332 to 359. By the byte that the tree has for a kind, as the meaning's `met_of`.
+#[tactic(auto, unfolding(meaning::specs::Collect::met_of))]
 fn met_at(src: &[u8], r: Record) -> Met
     ensures { as_met r.span result ≡ met_of src.now r }
 {
     if 0 < r.below {
         return Met::Inner;
     }
-    if r.kind == 0 {
-        return Met::Blank(newlines_in(src, r.span));
+    match r.kind {
+        0 => Met::Blank(newlines_in(src, r.span)),
+        1 => Met::Remark(true),
+        2 => Met::Remark(false),
+        _ => Met::Stop,
     }
-    if r.kind == 1 {
-        return Met::Remark(true);
-    }
-    if r.kind == 2 {
-        return Met::Remark(false);
-    }
-    Met::Stop
 }
 
 // The count, unless it is 0.
@@ -57,7 +54,8 @@ pub fn or_else(lines: u32, n: u32) -> u32
     if lines == 0 { n } else { lines }
 }
 
-// From a record on, with so many newlines in hand: was it refused? Then the comments that waited before still stand in the ring.
+// From a record on, with so many newlines in hand: was it refused? Then the comments that waited before still stand in the ring. A bool and
+// no Result: the refusal itself stands in the formatter, and definition `Collects` tells by the bool which run is left.
 pub fn process_comments(
     src: &[u8],
     table: &[u32],
@@ -68,48 +66,30 @@ pub fn process_comments(
 ) -> bool
     ensures { Collected src table fmt queue from.0 before result }
 {
-    let end = size(table).0;
-    let first = head(fmt);
-    let mut i = from.0;
     let mut lines = before;
-    let mut n = count(fmt);
-    while i < end {
+    let mut n = fmt.count;
+    for i in from.0..size(table).0 {
         let r = node(table, RecordNo(i));
-        let e = met_at(src, r);
-        match e {
-            Met::Inner => {
-                i += 1;
-            }
-            Met::Blank(k) => {
-                lines = or_else(lines, k);
-                i += 1;
-            }
+        match met_at(src, r) {
+            Met::Inner => {}
+            Met::Blank(k) => lines = or_else(lines, k),
             Met::Remark(line) => {
                 if 256 <= n {
-                    refused(fmt, Refusal::QueueFull(RecordNo(i)));
+                    fmt.refused(Refusal::QueueFull(RecordNo(i)));
                     return true;
                 }
-                let span = r.span;
-                push(
-                    queue,
-                    first,
-                    n,
-                    Comment {
-                        span,
-                        before: lines,
-                        line,
-                    },
-                );
+                let c = Comment {
+                    span: r.span,
+                    before: lines,
+                    line,
+                };
+                push(queue, fmt.head, n, c);
                 lines = 0;
                 n += 1;
-                i += 1;
             }
-            Met::Stop => {
-                collected(fmt, lines, n);
-                return false;
-            }
+            Met::Stop => break,
         }
     }
-    collected(fmt, lines, n);
+    fmt.collected(lines, n);
     false
 }

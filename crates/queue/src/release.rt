@@ -2,16 +2,15 @@
 // they reach, so that nothing is written where there is no room; the second writes them.
 ghost use Rattle.std.specs.Prelude.{◌≡◌, ◌≤◌, ◌+◌, length, eqb};
 ghost use Rattle.lent.specs.View.{queue_of, as_comment, gap_bytes};
-ghost use Rattle.lent.specs.Words.{run_of};
-ghost use Rattle.lent.specs.Run.{let_out_run};
-ghost use Rattle.queue.specs.Passes.{stop_of, front_of, gap_of, letters_of, back_of, bytes_from, reach, Measured};
+ghost use Rattle.queue.specs.Passes.{stop_of, front_of, gap_of, letters_of, back_of, bytes_from, reach, Measured, way_of};
 ghost use Rattle.lent.specs.Loans.{Wrote};
 ghost use Rattle.queue.specs.Parts.{Released};
 
-use lent::formatter::{Formatter, count, head, indent, len, let_out, refused, stopped};
+use lent::formatter::Formatter;
 use lent::ring::{Comment, Queue, comment_at};
-use lent::room::{Gap, lay, line_break, no_gap, one_space, passes};
-use meaning::answer::{Answer, Refusal};
+use lent::room::{Gap, lay, line_break, passes};
+use meaning::answer::Refusal;
+use meaning::call::Hint;
 use text::span::part;
 use text::trim::trimmed;
 
@@ -22,228 +21,191 @@ pub enum Way {
     Spaces(bool, bool),
 }
 
-// What the first pass finds: no room, or how many go and the output's length behind them.
+// How a hint lets comments out.
+impl From<Hint> for Way {
+    ghost from_gives = { λ h way. way ≡ way_of h };
+
+    fn from(h: Hint) -> Way {
+        match h {
+            Hint::Line => Way::Lines(false),
+            Hint::Prefix => Way::Spaces(false, true),
+            Hint::Suffix => Way::Spaces(true, false),
+            Hint::Infix => Way::Spaces(false, false),
+        }
+    }
+}
+
+// What the first pass finds: how many go, and the output's length behind them.
 #[derive(Clone, Copy)]
-enum Fit {
-    Past,
-    Goes(u32, usize),
-}
-
-// Does the release stop at this comment?
-fn stops(way: Way, c: Comment) -> bool
-    ensures { result ≡ stop_of way (as_comment c) }
-{
-    match way {
-        Way::Lines(same_line) => {
-            if same_line {
-                return 0 < c.before;
-            }
-            false
-        }
-        Way::Spaces(_, _) => c.line,
-    }
-}
-
-// A space stands before the first comment.
-fn in_front(way: Way) -> bool
-    ensures { result ≡ front_of way }
-{
-    match way {
-        Way::Lines(_) => false,
-        Way::Spaces(front, _) => front,
-    }
-}
-
-// The white space before a comment, where the output has `len` bytes.
-fn gap_before(way: Way, indent: u8, front: bool, len: usize, before: u32) -> Gap
-    ensures { gap_bytes result ≡ gap_of way indent front (eqb len 0) before }
-{
-    if len == 0 {
-        return no_gap();
-    }
-    match way {
-        Way::Lines(_) => {
-            if before == 0 {
-                return one_space();
-            }
-            line_break(indent, before)
-        }
-        Way::Spaces(_, _) => {
-            if front {
-                return one_space();
-            }
-            no_gap()
-        }
-    }
-}
-
-// The comment's text; on lines, a line comment's without the White_Space at its end.
-fn letters(src: &[u8], way: Way, c: Comment) -> &[u8]
-    ensures { result.now ≡ letters_of src.now way (as_comment c) }
-{
-    let t = part(src, c.span);
-    match way {
-        Way::Lines(_) => {
-            if c.line {
-                return trimmed(t);
-            }
-            t
-        }
-        Way::Spaces(_, _) => t,
-    }
-}
-
-// The white space behind so many comments.
-fn gap_behind(way: Way, count: u32) -> Gap
-    ensures { gap_bytes result ≡ back_of way count }
-{
-    if count == 0 {
-        return no_gap();
-    }
-    match way {
-        Way::Lines(_) => no_gap(),
-        Way::Spaces(_, back) => {
-            if back {
-                return one_space();
-            }
-            no_gap()
-        }
-    }
-}
-
-// The first pass, from an output of so many bytes on.
-fn measure(
-    src: &[u8],
-    queue: &Queue,
-    cap: usize,
-    from: usize,
-    indent: u8,
-    head: u32,
+struct Fit {
     count: u32,
-    way: Way,
-) -> Fit
-    ensures { Measured src.now way indent from cap (queue_of queue.now head count) result }
-{
-    let mut len = from;
-    if cap < len {
-        return Fit::Past;
-    }
-    let mut front = in_front(way);
-    let mut i: u32 = 0;
-    while i < count {
-        let c = comment_at(queue, head, i);
-        if stops(way, c) {
-            return Fit::Goes(i, len);
+    len: usize,
+}
+
+impl Way {
+    // Does the release stop at this comment?
+    fn stops(self, c: Comment) -> bool
+        ensures { result ≡ stop_of self (as_comment c) }
+    {
+        match self {
+            Way::Lines(same_line) => same_line && 0 < c.before,
+            Way::Spaces(_, _) => c.line,
         }
-        let gap = gap_before(way, indent, front, len, c.before);
-        let t = letters(src, way, c);
+    }
+
+    // A space stands before the first comment.
+    fn in_front(self) -> bool
+        ensures { result ≡ front_of self }
+    {
+        match self {
+            Way::Lines(_) => false,
+            Way::Spaces(front, _) => front,
+        }
+    }
+
+    // The white space before a comment, where the output has `len` bytes.
+    fn gap_before(self, indent: u8, front: bool, len: usize, before: u32) -> Gap
+        ensures { gap_bytes result ≡ gap_of self indent front (eqb len 0) before }
+    {
+        if len == 0 {
+            return Gap::NONE;
+        }
+        match self {
+            Way::Lines(_) if before == 0 => Gap::SPACE,
+            Way::Lines(_) => line_break(indent, before),
+            Way::Spaces(_, _) if front => Gap::SPACE,
+            Way::Spaces(_, _) => Gap::NONE,
+        }
+    }
+
+    // The comment's text; on lines, a line comment's without the White_Space at its end.
+    fn letters(self, src: &[u8], c: Comment) -> &[u8]
+        ensures { result.now ≡ letters_of src.now self (as_comment c) }
+    {
+        let t = part(src, c.span);
+        match self {
+            Way::Lines(_) if c.line => trimmed(t),
+            _ => t,
+        }
+    }
+
+    // The white space behind so many comments.
+    fn gap_behind(self, count: u32) -> Gap
+        ensures { gap_bytes result ≡ back_of self count }
+    {
+        match self {
+            Way::Spaces(_, true) if 0 < count => Gap::SPACE,
+            _ => Gap::NONE,
+        }
+    }
+}
+
+// The first pass, or none where there is no room.
+fn measure(src: &[u8], fmt: &Formatter, queue: &Queue, cap: usize, way: Way) -> Option<Fit>
+    ensures { Measured src.now way fmt.now.indent fmt.now.len cap (queue_of queue.now fmt.now.head fmt.now.count) result }
+{
+    let mut len = fmt.len;
+    if cap < len {
+        return None;
+    }
+    let mut front = way.in_front();
+    for i in 0..fmt.count {
+        let c = comment_at(queue, fmt.head, i);
+        if way.stops(c) {
+            return Some(Fit { count: i, len });
+        }
+        let gap = way.gap_before(fmt.indent, front, len, c.before);
+        let t = way.letters(src, c);
         if passes(cap, len, gap, t.len()) {
-            return Fit::Past;
+            return None;
         }
         len = len + (gap.lines + gap.spaces) + t.len();
         front = true;
-        i += 1;
     }
-    Fit::Goes(i, len)
+    Some(Fit {
+        count: fmt.count,
+        len,
+    })
 }
 
 // The second pass: the first n comments are written.
-fn write(
-    src: &[u8],
-    queue: &Queue,
-    out: &mut [u8],
-    from: usize,
-    indent: u8,
-    head: u32,
-    way: Way,
-    n: u32,
-)
-    requires { reach src.now way indent (front_of way) from (queue_of queue.now head n) ≤ length out.old }
-    ensures { Wrote out from (bytes_from src.now way indent (front_of way) from (queue_of queue.now head n)) }
+fn write(src: &[u8], fmt: &Formatter, queue: &Queue, out: &mut [u8], way: Way, n: u32)
+    requires { reach src.now way fmt.now.indent (front_of way) fmt.now.len (queue_of queue.now fmt.now.head n) ≤ length out.old }
+    ensures { Wrote out fmt.now.len (bytes_from src.now way fmt.now.indent (front_of way) fmt.now.len (queue_of queue.now fmt.now.head n)) }
 {
-    let mut len = from;
-    let mut front = in_front(way);
-    let mut i: u32 = 0;
-    while i < n {
-        let c = comment_at(queue, head, i);
-        let gap = gap_before(way, indent, front, len, c.before);
-        let t = letters(src, way, c);
+    let mut len = fmt.len;
+    let mut front = way.in_front();
+    for i in 0..n {
+        let c = comment_at(queue, fmt.head, i);
+        let gap = way.gap_before(fmt.indent, front, len, c.before);
+        let t = way.letters(src, c);
         len = lay(out, len, gap, t);
         front = true;
-        i += 1;
     }
 }
 
 // The one comment that waits is measured and written at once.
 fn release_one(src: &[u8], fmt: &mut Formatter, queue: &Queue, out: &mut [u8], way: Way)
-    requires { ((run_of fmt.old).answer ≡ Answer.Done) × ((run_of fmt.old).count ≡ 1) × ((run_of fmt.old).len ≤ length out.old) }
+    requires { (fmt.old.answer ≡ Ok tt) × (fmt.old.count ≡ 1) × (fmt.old.len ≤ length out.old) }
     ensures { Released src fmt queue out way }
 {
-    let from = len(fmt);
-    let c = comment_at(queue, head(fmt), 0);
-    if stops(way, c) {
+    let from = fmt.len;
+    let c = comment_at(queue, fmt.head, 0);
+    if way.stops(c) {
         return;
     }
-    let gap = gap_before(way, indent(fmt), in_front(way), from, c.before);
-    let t = letters(src, way, c);
+    let gap = way.gap_before(fmt.indent, way.in_front(), from, c.before);
+    let t = way.letters(src, c);
     if passes(out.len(), from, gap, t.len()) {
-        refused(fmt, Refusal::NoRoom(from));
+        fmt.refused(Refusal::NoRoom(from));
         return;
     }
-    let back = gap_behind(way, 1);
+    let back = way.gap_behind(1);
     if passes(
         out.len(),
         from + (gap.lines + gap.spaces) + t.len(),
         back,
         0,
     ) {
-        refused(fmt, Refusal::NoRoom(from));
+        fmt.refused(Refusal::NoRoom(from));
         return;
     }
     let to = lay(out, from, gap, t);
     let end = lay(out, to, back, &src[..0]);
-    let_out(fmt, 1, end);
+    fmt.let_out(1, end);
 }
 
 // Both passes.
 pub fn release_waiting(src: &[u8], fmt: &mut Formatter, queue: &Queue, out: &mut [u8], way: Way)
     ensures { Released src fmt queue out way }
 {
-    if stopped(fmt) {
+    if fmt.stopped() {
         return;
     }
-    let from = len(fmt);
-    if count(fmt) == 1 {
-        if from <= out.len() {
-            release_one(src, fmt, queue, out, way);
-            return;
-        }
+    if fmt.count == 1 && fmt.len <= out.len() {
+        release_one(src, fmt, queue, out, way);
+        return;
     }
-    let deep = indent(fmt);
-    let first = head(fmt);
-    let f = measure(src, queue, out.len(), from, deep, first, count(fmt), way);
-    let Fit::Goes(n, to) = f else {
-        refused(fmt, Refusal::NoRoom(from));
+    let Some(fit) = measure(src, fmt, queue, out.len(), way) else {
+        fmt.refused(Refusal::NoRoom(fmt.len));
         return;
     };
-    let gap = gap_behind(way, n);
-    if passes(out.len(), to, gap, 0) {
-        refused(fmt, Refusal::NoRoom(from));
+    let gap = way.gap_behind(fit.count);
+    if passes(out.len(), fit.len, gap, 0) {
+        fmt.refused(Refusal::NoRoom(fmt.len));
         return;
     }
-    write(src, queue, out, from, deep, first, way, n);
-    let end = lay(out, to, gap, &src[..0]);
-    let_out(fmt, n, end);
+    write(src, fmt, queue, out, way, fit.count);
+    let end = lay(out, fit.len, gap, &src[..0]);
+    fmt.let_out(fit.count, end);
 }
 
 // A release. Most often nothing waits: then nothing changes, where the output is inside the buffer.
 pub fn release(src: &[u8], fmt: &mut Formatter, queue: &Queue, out: &mut [u8], way: Way)
     ensures { Released src fmt queue out way }
 {
-    if count(fmt) == 0 {
-        if len(fmt) <= out.len() {
-            return;
-        }
+    if fmt.count == 0 && fmt.len <= out.len() {
+        return;
     }
     release_waiting(src, fmt, queue, out, way);
 }

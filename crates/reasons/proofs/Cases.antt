@@ -8,7 +8,6 @@ use Rattle.width.specs.Count.{dark, counted, width_of, place_from}
 use Rattle.tree.specs.Table.{node_of}
 use Rattle.tree.specs.Cursor.{siblings, shown, passes, kept, behind}
 use Rattle.kinds.specs.Facts.{byte_of, facts_of}
-use Rattle.meaning.specs.Numbers.{Seen}
 use Rattle.loose.specs.Reason.{is_entry, crowd, reason}
 use Rattle.reasons.specs.Why.{is_list, is_name, of_named, of_first, of_object, of_kind, why_at}
 use Rattle.reasons.specs.Cases.{Case, text_of, records_from, script, told, reasons, pairs, places, objects}

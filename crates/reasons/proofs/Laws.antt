@@ -1,14 +1,13 @@
 -- What callers may rely on: the number of what is told, and where it is a reason. Assumes nothing.
-use Rattle.text.proofs.Base.{◌≡◌, refl, ◌∙◌, Bool, true, false, cond, List, ℕ, ◌+◌, ◌*◌, ◌≤◌, ◌<◌, arith, length, eqb, leb}
+use Rattle.text.proofs.Base.{◌≡◌, refl, Bool, true, false, cond, List, ℕ, ◌*◌, ◌≤◌, ◌<◌, arith, length, eqb, leb}
+use Rattle.std.specs.Prelude.{Option, Some, None, Ok, Err}
 use Rattle.tree.specs.declared.record.RecordNo.{RecordNo}
-use Rattle.tree.specs.declared.cursor.Found.{Found}
-use Rattle.tree.specs.declared.cursor.Found.TheVariants.{At, None}
 use Rattle.tree.specs.Table.{node_of}
 use Rattle.tree.specs.Cursor.{children_of, peek_of}
 use Rattle.kinds.specs.declared.Kind.{Kind}
 use Rattle.kinds.specs.Facts.{byte_of}
-use Rattle.opening.specs.declared.open.Opening.{Opening}
-use Rattle.opening.specs.declared.open.Opening.TheVariants as found
+use Rattle.opening.specs.Opening.{Opening}
+use Rattle.opening.specs.declared.open.Unopened.TheVariants as found
 use Rattle.opening.specs.Opening.{opened}
 use Rattle.meaning.specs.declared.answer.Refusal.{Refusal}
 use Rattle.meaning.specs.declared.answer.Refusal.TheVariants.{SourceLong, SourceIll, TreeBad, NoRoom, QueueFull, IndentOut, TreeDeep, WrongKind, NoRule, Finished, NoNode, BadCall}
@@ -16,12 +15,10 @@ use Rattle.meaning.specs.Numbers.{refusal_seen}
 use Rattle.meaning.specs.Opening.{answer_to, script_in}
 use Rattle.meaning.specs.State.{Script}
 use Rattle.loose.specs.declared.reason.Reason.{Reason}
-use Rattle.loose.specs.declared.reason.Reason.TheVariants.{Wide, Comment, Sixth, Fits}
+use Rattle.loose.specs.declared.reason.Reason.TheVariants.{Wide, Comment, Sixth}
 use Rattle.loose.specs.Reason.{is_loose}
-use Rattle.reasons.specs.declared.why.Why.{Why}
-use Rattle.reasons.specs.declared.why.Why.TheVariants.{Refused, Because}
-use Rattle.reasons.specs.Why.{is_list, is_name, of_named, of_first, of_object, of_kind, why_at, on_opened, why}
-use Rattle.reasons.specs.Numbers.{reason_seen, why_seen, packed, word_of, InOne}
+use Rattle.reasons.specs.Why.{Why, is_list, is_name, of_named, of_first, of_object, of_kind, why_at, on_opened, why}
+use Rattle.reasons.specs.Numbers.{why_seen, packed, word_of, InOne}
 
 -- ---- the place is the word that the code names: none of these refusals names a count
 
@@ -33,9 +30,9 @@ cond_placed true p q = p
 cond_placed false p q = q
 
 module _ (x : Script) (k : RecordNo) where
-  first_placed : (f : Found) → Placed (of_first x k f)
+  first_placed : (f : Option RecordNo) → Placed (of_first x k f)
   unfolding of_first of_named
-  first_placed (At name) = cond_placed (is_name (node_of x.tree name.0).kind) (record { is = refl }) (record { is = refl })
+  first_placed (Some name) = cond_placed (is_name (node_of x.tree name.0).kind) (record { is = refl }) (record { is = refl })
   first_placed None = record { is = refl }
 
   at_placed : Placed (why_at x k)
@@ -46,11 +43,11 @@ module _ (x : Script) (k : RecordNo) where
       (cond_placed (eqb (node_of x.tree k.0).kind (byte_of Kind.ExprObject)) (first_placed (peek_of x.tree (children_of x.tree k.0))) (record { is = refl })))
 
 on_placed : (o : Opening) {w : Why} → Placed w → Placed (on_opened (answer_to o) w)
-on_placed (found.Good n) p = p
-on_placed found.SourceLong p = record { is = refl }
-on_placed (found.SourceIll i) p = record { is = refl }
-on_placed (found.TreeBad i) p = record { is = refl }
-on_placed (found.TreeDeep i) p = record { is = refl }
+on_placed (Ok n) p = p
+on_placed (Err found.SourceLong) p = record { is = refl }
+on_placed (Err (found.SourceIll i)) p = record { is = refl }
+on_placed (Err (found.TreeBad i)) p = record { is = refl }
+on_placed (Err (found.TreeDeep i)) p = record { is = refl }
 
 why_placed : (src list : List ℕ) (k : RecordNo) → Placed (why src list k)
 unfolding why
@@ -83,37 +80,37 @@ refusal_low (BadCall p) = (omega arith, omega arith)
 
 -- a number is that of a reason, of which the list is loose or compact
 pub record Reasoned (w : Why) (loose : Bool) : Type 0 where
-  pub reason : Reason
-  pub is : w ≡ Because reason
+  pub reason : Option Reason
+  pub is : w ≡ Ok reason
   pub so : is_loose reason ≡ loose
 
 module _ {n : ℕ} where
   -- 0 is said of a compact list alone
   pub none_compact : (w : Why) → n ≡ packed w → n ≡ 0 → Reasoned w false
   unfolding packed
-  none_compact (Refused r) e z = absurd (omega (arith, (refusal_low r).0))
-  none_compact (Because (Wide p)) e z = absurd (omega arith)
-  none_compact (Because (Comment k)) e z = absurd (omega arith)
-  none_compact (Because (Sixth k)) e z = absurd (omega arith)
-  none_compact (Because Fits) e z = record { reason = Fits; is = refl; so = refl }
+  none_compact (Err r) e z = absurd (omega (arith, (refusal_low r).0))
+  none_compact (Ok (Some (Wide p))) e z = absurd (omega arith)
+  none_compact (Ok (Some (Comment k))) e z = absurd (omega arith)
+  none_compact (Ok (Some (Sixth k))) e z = absurd (omega arith)
+  none_compact (Ok None) e z = record { reason = None; is = refl; so = refl }
 
   -- from 101 on it is a loose list
   pub reason_loose : (w : Why) → n ≡ packed w → (why_seen w).place < 0x100000000 → 101 * 0x100000000 ≤ n → Reasoned w true
   unfolding packed
-  reason_loose (Refused r) e f h = absurd (omega (arith, (refusal_low r).1))
-  reason_loose (Because (Wide p)) e f h = record { reason = Wide p; is = refl; so = refl }
-  reason_loose (Because (Comment k)) e f h = record { reason = Comment k; is = refl; so = refl }
-  reason_loose (Because (Sixth k)) e f h = record { reason = Sixth k; is = refl; so = refl }
-  reason_loose (Because Fits) e f h = absurd (omega arith)
+  reason_loose (Err r) e f h = absurd (omega (arith, (refusal_low r).1))
+  reason_loose (Ok (Some (Wide p))) e f h = record { reason = Some (Wide p); is = refl; so = refl }
+  reason_loose (Ok (Some (Comment k))) e f h = record { reason = Some (Comment k); is = refl; so = refl }
+  reason_loose (Ok (Some (Sixth k))) e f h = record { reason = Some (Sixth k); is = refl; so = refl }
+  reason_loose (Ok None) e f h = absurd (omega arith)
 
 -- a reason is given over an opened tree alone
-pub why_opened : (src list : List ℕ) (k : RecordNo) {r : Reason} → why src list k ≡ Because r → why_at (script_in src list) k ≡ Because r
+pub why_opened : (src list : List ℕ) (k : RecordNo) {r : Option Reason} → why src list k ≡ Ok r → why_at (script_in src list) k ≡ Ok r
 unfolding why
 why_opened src list k {r} = go (opened src list)
   where
-    go : (o : Opening) → on_opened (answer_to o) (why_at (script_in src list) k) ≡ Because r → why_at (script_in src list) k ≡ Because r
-    go (found.Good n) e = e
-    go found.SourceLong e = let z : ◌≡◌ {A = ℕ} 0 1 = cc in absurd (omega arith)
-    go (found.SourceIll i) e = let z : ◌≡◌ {A = ℕ} 0 1 = cc in absurd (omega arith)
-    go (found.TreeBad i) e = let z : ◌≡◌ {A = ℕ} 0 1 = cc in absurd (omega arith)
-    go (found.TreeDeep i) e = let z : ◌≡◌ {A = ℕ} 0 1 = cc in absurd (omega arith)
+    go : (o : Opening) → on_opened (answer_to o) (why_at (script_in src list) k) ≡ Ok r → why_at (script_in src list) k ≡ Ok r
+    go (Ok n) e = e
+    go (Err found.SourceLong) e = let z : ◌≡◌ {A = ℕ} 0 1 = cc in absurd (omega arith)
+    go (Err (found.SourceIll i)) e = let z : ◌≡◌ {A = ℕ} 0 1 = cc in absurd (omega arith)
+    go (Err (found.TreeBad i)) e = let z : ◌≡◌ {A = ℕ} 0 1 = cc in absurd (omega arith)
+    go (Err (found.TreeDeep i)) e = let z : ◌≡◌ {A = ℕ} 0 1 = cc in absurd (omega arith)

@@ -5,7 +5,7 @@ use Prim.Native.Nat.{pred}
 use Rattle.encoding.specs.Utf8.{char_len}
 use Rattle.white.specs.White.{is_white}
 use Rattle.text.specs.Chars.{code, chars_from, chars}
-use Rattle.width.specs.Count.{dark, place_from, place_of}
+use Rattle.width.specs.Count.{dark, place_from}
 
 -- the character that a text begins with
 abbrev pub first_of : List ℕ → ℕ

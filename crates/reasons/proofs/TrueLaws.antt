@@ -1,10 +1,9 @@
 -- Each reason is true of its node by document 01's rule, and there is one exactly if that rule says so. Assumes nothing.
-use Rattle.text.proofs.Base.{◌≡◌, refl, sym, Bool, true, false, cond, ◌||◌, List, [], ◌∷◌, ◌++◌, ℕ, suc, ◌+◌, ◌≤◌, arith, length, eqb, leb}
+use Rattle.text.proofs.Base.{◌≡◌, refl, sym, Bool, true, false, cond, ◌||◌, List, [], ◌∷◌, ℕ, suc, ◌+◌, ◌≤◌, arith, length, eqb, leb}
+use Rattle.std.specs.Prelude.{Option, Some, None, Ok, Err}
 use borrow.Author.Tests.{le-leb, lt-leb, eqb-true, eqb-false}
 use Rattle.tree.specs.declared.record.Record.{Record}
 use Rattle.tree.specs.declared.record.RecordNo.{RecordNo}
-use Rattle.tree.specs.declared.cursor.Found.{Found}
-use Rattle.tree.specs.declared.cursor.Found.TheVariants.{At, None}
 use Rattle.tree.specs.Table.{node_of}
 use Rattle.tree.specs.Cursor.{behind, children_of, peek_of}
 use Rattle.kinds.specs.declared.Kind.{Kind}
@@ -14,9 +13,8 @@ use Rattle.meaning.specs.declared.answer.Refusal.TheVariants.{WrongKind, NoRule,
 use Rattle.meaning.specs.State.{Script}
 use Rattle.meaning.specs.Opening.{script_in}
 use Rattle.loose.specs.declared.reason.Reason.{Reason}
-use Rattle.loose.specs.declared.reason.Reason.TheVariants.{Wide, Comment, Sixth, Fits}
+use Rattle.loose.specs.declared.reason.Reason.TheVariants.{Wide, Comment, Sixth}
 use Rattle.loose.specs.Reason.{is_entry, crowd, children_from, reason, is_loose}
-use Rattle.reasons.specs.declared.why.Why.TheVariants.{Refused, Because}
 use Rattle.reasons.specs.Why.{is_list, is_name, of_named, of_first, of_object, of_kind, why_at, why}
 use Rattle.white.proofs.Bools.{or_true}
 use Rattle.reasons.proofs.Laws.{why_opened}
@@ -34,7 +32,7 @@ module _ (rs : List Record) (keys : Bool) where
     where
       go : (suc n ≤ 5 → is_loose (crowd rs keys (suc n) ks) ≡ noted rs ks || leb 6 (suc n + entries rs keys ks))
           → is_loose (crowd rs keys n ks) ≡ noted rs ks || leb 6 (n + entries rs keys ks) → (a b t : Bool) → eqb n 5 ≡ t
-          → is_loose (cond a (Comment (record { 0 = k })) (cond b (cond t (Sixth (record { 0 = k })) (crowd rs keys (suc n) ks)) (crowd rs keys n ks)))
+          → is_loose (cond a (Some (Comment (record { 0 = k }))) (cond b (cond t (Some (Sixth (record { 0 = k }))) (crowd rs keys (suc n) ks)) (crowd rs keys n ks)))
           ≡ (a || noted rs ks) || leb 6 (n + cond b (suc (entries rs keys ks)) (entries rs keys ks))
       go f g true b t e = refl
       go f g false true true e =
@@ -48,7 +46,7 @@ pub loose_by_rule : (x : Script) (keys : Bool) (k : RecordNo) (from : ℕ) → i
 unfolding reason goes_loose
 loose_by_rule x keys k from = go (too_wide x k)
   where
-    go : (w : Bool) → is_loose (cond w (Wide (place_in x.source (node_of x.tree k.0).span 80)) (crowd x.tree keys 0 (children_from x.tree k from)))
+    go : (w : Bool) → is_loose (cond w (Some (Wide (place_in x.source (node_of x.tree k.0).span 80))) (crowd x.tree keys 0 (children_from x.tree k from)))
         ≡ w || (noted x.tree (children_from x.tree k from) || leb 6 (entries x.tree keys (children_from x.tree k from)))
     go true = refl
     go false =
@@ -58,11 +56,11 @@ loose_by_rule x keys k from = go (too_wide x k)
 -- ---- true of the node
 
 -- what the crowd says of these records, with n entries before them
-data Says (rs : List Record) (keys : Bool) (n : ℕ) (ks : List ℕ) : Reason → Type 0 where
-  said_note : {c : RecordNo} {m : ℕ} → Among rs keys ks c.0 m → n + m ≤ 5 → is_note rs c.0 ≡ true → Says rs keys n ks (Comment c)
+data Says (rs : List Record) (keys : Bool) (n : ℕ) (ks : List ℕ) : Option Reason → Type 0 where
+  said_note : {c : RecordNo} {m : ℕ} → Among rs keys ks c.0 m → n + m ≤ 5 → is_note rs c.0 ≡ true → Says rs keys n ks (Some (Comment c))
   said_sixth : {c : RecordNo} {m : ℕ} → Among rs keys ks c.0 m → n + m ≡ 5 → is_entry keys (node_of rs c.0).kind ≡ true → is_note rs c.0 ≡ false
-      → Says rs keys n ks (Sixth c)
-  said_none : Says rs keys n ks Fits
+      → Says rs keys n ks (Some (Sixth c))
+  said_none : Says rs keys n ks None
 
 module _ (rs : List Record) (keys : Bool) where
   -- met at once, or behind record k
@@ -74,12 +72,12 @@ module _ (rs : List Record) (keys : Bool) where
   unfolding noted entries
   met_behind k e f g = record { before = k ∷ g.before; after = g.after; cut = rw g.cut; no_note = rw e g.no_note; count = rw g.count f }
 
-  an_entry : {n k : ℕ} {ks : List ℕ} {r : Reason} → is_note rs k ≡ false → is_entry keys (node_of rs k).kind ≡ true → Says rs keys (suc n) ks r → Says rs keys n (k ∷ ks) r
+  an_entry : {n k : ℕ} {ks : List ℕ} {r : Option Reason} → is_note rs k ≡ false → is_entry keys (node_of rs k).kind ≡ true → Says rs keys (suc n) ks r → Says rs keys n (k ∷ ks) r
   an_entry {n} {k} e f (said_note {c} {m} g h i) = said_note {m = suc m} (met_behind k e (rw f) g) (omega arith) i
   an_entry {n} {k} e f (said_sixth {c} {m} g h i j) = said_sixth {m = suc m} (met_behind k e (rw f) g) (omega arith) i j
   an_entry e f said_none = said_none
 
-  no_entry : {n k : ℕ} {ks : List ℕ} {r : Reason} → is_note rs k ≡ false → is_entry keys (node_of rs k).kind ≡ false → Says rs keys n ks r → Says rs keys n (k ∷ ks) r
+  no_entry : {n k : ℕ} {ks : List ℕ} {r : Option Reason} → is_note rs k ≡ false → is_entry keys (node_of rs k).kind ≡ false → Says rs keys n ks r → Says rs keys n (k ∷ ks) r
   no_entry {n} {k} e f (said_note {c} {m} g h i) = said_note {m = m} (met_behind k e (rw f) g) h i
   no_entry {n} {k} e f (said_sixth {c} {m} g h i j) = said_sixth {m = m} (met_behind k e (rw f) g) h i j
   no_entry e f said_none = said_none
@@ -90,7 +88,7 @@ module _ (rs : List Record) (keys : Bool) where
   crowd_says n (k ∷ ks) h = go (λ (l : suc n ≤ 5). crowd_says (suc n) ks l) (crowd_says n ks h) (is_note rs k) refl (is_entry keys (node_of rs k).kind) refl (eqb n 5) refl
     where
       go : (suc n ≤ 5 → Says rs keys (suc n) ks (crowd rs keys (suc n) ks)) → Says rs keys n ks (crowd rs keys n ks) → (a : Bool) → is_note rs k ≡ a → (b : Bool) → is_entry keys (node_of rs k).kind ≡ b → (t : Bool) → eqb n 5 ≡ t
-          → Says rs keys n (k ∷ ks) (cond a (Comment (record { 0 = k })) (cond b (cond t (Sixth (record { 0 = k })) (crowd rs keys (suc n) ks)) (crowd rs keys n ks)))
+          → Says rs keys n (k ∷ ks) (cond a (Some (Comment (record { 0 = k }))) (cond b (cond t (Some (Sixth (record { 0 = k }))) (crowd rs keys (suc n) ks)) (crowd rs keys n ks)))
       go f g true ea b eb t et = said_note (met_here k ks) (omega arith) ea
       go f g false ea true eb true et = said_sixth (met_here k ks) (omega (arith, eqb-true n 5 et)) eb ea
       go f g false ea true eb false et = an_entry ea eb (f (omega (arith, eqb-false n 5 et)))
@@ -100,33 +98,33 @@ pub reason_true : (x : Script) (keys : Bool) (k : RecordNo) (from : ℕ) → Tru
 unfolding reason
 reason_true x keys k from = go (too_wide x k) refl
   where
-    by : (r : Reason) → too_wide x k ≡ false → reason x keys k from ≡ r → Says x.tree keys 0 (children_from x.tree k from) r → True x keys k from r
-    by (Wide _) w e x5 = elim x5 [ ]
-    by (Comment c) w e (said_note g h i) = note w g (omega arith) i
-    by (Sixth c) w e (said_sixth {m = m} g h i j) = let z : m ≡ 5 = omega arith in sixth w (rw z at g) i j
-    by Fits w e said_none = fits (rw e at (sym (loose_by_rule x keys k from)))
+    by : (r : Option Reason) → too_wide x k ≡ false → reason x keys k from ≡ r → Says x.tree keys 0 (children_from x.tree k from) r → True x keys k from r
+    by (Some (Wide _)) w e x5 = elim x5 [ ]
+    by (Some (Comment c)) w e (said_note g h i) = note w g (omega arith) i
+    by (Some (Sixth c)) w e (said_sixth {m = m} g h i j) = let z : m ≡ 5 = omega arith in sixth w (rw z at g) i j
+    by None w e said_none = fits (rw e at (sym (loose_by_rule x keys k from)))
 
-    go : (w : Bool) → too_wide x k ≡ w → True x keys k from (cond w (Wide (place_in x.source (node_of x.tree k.0).span 80)) (crowd x.tree keys 0 (children_from x.tree k from)))
+    go : (w : Bool) → too_wide x k ≡ w → True x keys k from (cond w (Some (Wide (place_in x.source (node_of x.tree k.0).span 80))) (crowd x.tree keys 0 (children_from x.tree k from)))
     go true e = wide e
     go false e = by (crowd x.tree keys 0 (children_from x.tree k from)) e (rw e) (crowd_says x.tree keys 0 (children_from x.tree k from) (omega arith))
 
 -- ---- what is told of a node is true of it
 
-module _ (x : Script) (k : RecordNo) {r : Reason} where
-  object_true : eqb (node_of x.tree k.0).kind (byte_of Kind.ExprObject) ≡ true → of_object x k ≡ Because r → TrueOf x k r
+module _ (x : Script) (k : RecordNo) {r : Option Reason} where
+  object_true : eqb (node_of x.tree k.0).kind (byte_of Kind.ExprObject) ≡ true → of_object x k ≡ Ok r → TrueOf x k r
   unfolding of_object of_first of_named
   object_true o = go (peek_of x.tree (children_of x.tree k.0)) refl
     where
-      named : (name : RecordNo) → peek_of x.tree (children_of x.tree k.0) ≡ At name → (t : Bool) → is_name (node_of x.tree name.0).kind ≡ t
-          → cond t (Because (reason x true k (behind x.tree name.0))) (Refused (WrongKind name)) ≡ Because r → TrueOf x k r
+      named : (name : RecordNo) → peek_of x.tree (children_of x.tree k.0) ≡ Some name → (t : Bool) → is_name (node_of x.tree name.0).kind ≡ t
+          → cond t (Ok (reason x true k (behind x.tree name.0))) (Err (WrongKind name)) ≡ Ok r → TrueOf x k r
       named name p true t e = let z : reason x true k (behind x.tree name.0) ≡ r = cc in of_object_lem o p t (rw z at (reason_true x true k (behind x.tree name.0)))
       named name p false t e = let z : ◌≡◌ {A = ℕ} 0 1 = cc in absurd (omega arith)
 
-      go : (f : Found) → peek_of x.tree (children_of x.tree k.0) ≡ f → of_first x k f ≡ Because r → TrueOf x k r
-      go (At name) p e = named name p (is_name (node_of x.tree name.0).kind) refl e
+      go : (f : Option RecordNo) → peek_of x.tree (children_of x.tree k.0) ≡ f → of_first x k f ≡ Ok r → TrueOf x k r
+      go (Some name) p e = named name p (is_name (node_of x.tree name.0).kind) refl e
       go None p e = let z : ◌≡◌ {A = ℕ} 0 1 = cc in absurd (omega arith)
 
-  pub told_true : why_at x k ≡ Because r → TrueOf x k r
+  pub told_true : why_at x k ≡ Ok r → TrueOf x k r
   unfolding why_at of_kind
   told_true = go (leb (length x.tree) k.0) (is_list (node_of x.tree k.0).kind) refl (eqb (node_of x.tree k.0).kind (byte_of Kind.ExprObject)) refl
     where
@@ -134,12 +132,12 @@ module _ (x : Script) (k : RecordNo) {r : Reason} where
       first = (children_of x.tree k.0).at.0
 
       go : (past list : Bool) → is_list (node_of x.tree k.0).kind ≡ list → (keys : Bool) → eqb (node_of x.tree k.0).kind (byte_of Kind.ExprObject) ≡ keys
-          → cond past (Refused (NoNode k)) (cond list (Because (reason x false k first)) (cond keys (of_object x k) (Refused (NoRule k)))) ≡ Because r → TrueOf x k r
+          → cond past (Err (NoNode k)) (cond list (Ok (reason x false k first)) (cond keys (of_object x k) (Err (NoRule k)))) ≡ Ok r → TrueOf x k r
       go true list l keys o e = let z : ◌≡◌ {A = ℕ} 0 1 = cc in absurd (omega arith)
       go false true l keys o e = let z : reason x false k first ≡ r = cc in of_list l (rw z at (reason_true x false k first))
       go false false l true o e = object_true o e
       go false false l false o e = let z : ◌≡◌ {A = ℕ} 0 1 = cc in absurd (omega arith)
 
 -- over any bytes: a reason is told of opened ones alone
-pub why_true : (src list : List ℕ) (k : RecordNo) {r : Reason} → why src list k ≡ Because r → TrueOf (script_in src list) k r
+pub why_true : (src list : List ℕ) (k : RecordNo) {r : Option Reason} → why src list k ≡ Ok r → TrueOf (script_in src list) k r
 why_true src list k e = told_true (script_in src list) k (why_opened src list k e)

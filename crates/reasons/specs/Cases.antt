@@ -1,5 +1,5 @@
 -- Worked cases of the reason, as one table. Assumes nothing.
-use Rattle.std.specs.Prelude.{ℕ, suc, ◌+◌, true, List, [], ◌∷◌, ◌++◌, map, length, replicate}
+use Rattle.std.specs.Prelude.{ℕ, ◌+◌, true, List, [], ◌∷◌, ◌++◌, map, length, replicate}
 use Rattle.tree.specs.declared.record.Record.{Record}
 use Rattle.tree.specs.Records.{span_of}
 use Rattle.meaning.specs.State.{Script}

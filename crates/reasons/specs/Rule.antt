@@ -1,8 +1,7 @@
 -- Document 01's rule in its own words: which lists go loose, and what each reason says of its node. Assumes nothing.
-use Rattle.std.specs.Prelude.{◌≡◌, ℕ, suc, ◌≤◌, Bool, true, false, cond, ◌||◌, List, [], ◌∷◌, ◌++◌, eqb, leb}
+use Rattle.std.specs.Prelude.{◌≡◌, ℕ, suc, ◌≤◌, Bool, true, false, cond, ◌||◌, List, [], ◌∷◌, ◌++◌, Option, Some, None, eqb, leb}
 use Rattle.tree.specs.declared.record.Record.{Record}
 use Rattle.tree.specs.declared.record.RecordNo.{RecordNo}
-use Rattle.tree.specs.declared.cursor.Found.TheVariants.{At}
 use Rattle.tree.specs.Table.{node_of}
 use Rattle.tree.specs.Cursor.{behind, children_of, peek_of}
 use Rattle.kinds.specs.declared.Kind.{Kind}
@@ -10,7 +9,7 @@ use Rattle.kinds.specs.Facts.{byte_of}
 use Rattle.width.specs.Count.{is_wide, place_in}
 use Rattle.meaning.specs.State.{Script}
 use Rattle.loose.specs.declared.reason.Reason.{Reason}
-use Rattle.loose.specs.declared.reason.Reason.TheVariants.{Wide, Comment, Sixth, Fits}
+use Rattle.loose.specs.declared.reason.Reason.TheVariants.{Wide, Comment, Sixth}
 use Rattle.loose.specs.Reason.{is_entry, children_from}
 use Rattle.reasons.specs.Why.{is_list, is_name}
 
@@ -46,16 +45,16 @@ pub record Among (rs : List Record) (keys : Bool) (ks : List ℕ) (c : ℕ) (n :
   pub count : entries rs keys before ≡ n
 
 -- what each reason says of node k, whose records count from one on
-pub data True (x : Script) (keys : Bool) (k : RecordNo) (from : ℕ) : Reason → Type 0 where
-  wide : too_wide x k ≡ true → True x keys k from (Wide (place_in x.source (node_of x.tree k.0).span 80))
+pub data True (x : Script) (keys : Bool) (k : RecordNo) (from : ℕ) : Option Reason → Type 0 where
+  wide : too_wide x k ≡ true → True x keys k from (Some (Wide (place_in x.source (node_of x.tree k.0).span 80)))
   note : {c : RecordNo} {n : ℕ} → too_wide x k ≡ false → Among x.tree keys (children_from x.tree k from) c.0 n → n ≤ 5
-      → is_note x.tree c.0 ≡ true → True x keys k from (Comment c)
+      → is_note x.tree c.0 ≡ true → True x keys k from (Some (Comment c))
   sixth : {c : RecordNo} → too_wide x k ≡ false → Among x.tree keys (children_from x.tree k from) c.0 5
-      → is_entry keys (node_of x.tree c.0).kind ≡ true → is_note x.tree c.0 ≡ false → True x keys k from (Sixth c)
-  fits : goes_loose x keys k from ≡ false → True x keys k from Fits
+      → is_entry keys (node_of x.tree c.0).kind ≡ true → is_note x.tree c.0 ≡ false → True x keys k from (Some (Sixth c))
+  fits : goes_loose x keys k from ≡ false → True x keys k from None
 
 -- of a list its own records count, of an object those behind its name
-pub data TrueOf (x : Script) (k : RecordNo) (r : Reason) : Type 0 where
+pub data TrueOf (x : Script) (k : RecordNo) (r : Option Reason) : Type 0 where
   of_list : is_list (node_of x.tree k.0).kind ≡ true → True x false k (children_of x.tree k.0).at.0 r → TrueOf x k r
-  of_object_lem : {name : RecordNo} → eqb (node_of x.tree k.0).kind (byte_of Kind.ExprObject) ≡ true → peek_of x.tree (children_of x.tree k.0) ≡ At name
+  of_object_lem : {name : RecordNo} → eqb (node_of x.tree k.0).kind (byte_of Kind.ExprObject) ≡ true → peek_of x.tree (children_of x.tree k.0) ≡ Some name
       → is_name (node_of x.tree name.0).kind ≡ true → True x true k (behind x.tree name.0) r → TrueOf x k r

@@ -2,86 +2,77 @@
 // name.
 ghost use Rattle.std.specs.Prelude.{◌≡◌};
 ghost use Rattle.lent.specs.Loans.{script};
-ghost use Rattle.meaning.specs.declared.answer.Answer.TheVariants.{Done};
 ghost use Rattle.meaning.specs.Opening.{opening, script_in};
 ghost use Rattle.reasons.specs.Why.{is_list, is_name, of_object, of_named, why_at, why};
 
 use entry::checks::opening;
 use kinds::bytes;
 use loose::reason::{Reason, why_loose};
-use meaning::answer::{Answer, Refusal};
-use tree::cursor::{Found, behind, children_of, peek};
+use meaning::answer::Refusal;
+use tree::cursor::{behind, children_of};
 use tree::record::RecordNo;
 use tree::table::{decode, first, kind_at, size};
-
-// The reason, `Fits` where there is none; or the refusal.
-#[derive(Clone, Copy)]
-pub enum Why {
-    Refused(Refusal),
-    Because(Reason),
-}
 
 // What `exprs` lays out: a call's arguments, an array.
 fn is_list(kind: u8) -> bool
     ensures { result ≡ is_list kind }
 {
-    if kind == bytes::EXPR_CALL {
-        return true;
-    }
-    kind == bytes::EXPR_ARRAY
+    kind == bytes::EXPR_CALL || kind == bytes::EXPR_ARRAY
 }
 
 // An object's name: `#`, or a path.
 fn is_name(kind: u8) -> bool
     ensures { result ≡ is_name kind }
 {
-    if kind == bytes::ANON_KEY {
-        return true;
-    }
-    kind == bytes::PATH
+    kind == bytes::ANON_KEY || kind == bytes::PATH
 }
 
 // Of object k, whose first record is `name`: only what stands behind its name decides.
-fn of_named(src: &[u8], table: &[u32], k: RecordNo, name: RecordNo) -> Why
+fn of_named(
+    src: &[u8],
+    table: &[u32],
+    k: RecordNo,
+    name: RecordNo,
+) -> Result<Option<Reason>, Refusal>
     ensures { result ≡ of_named (script src table) k name }
 {
     if is_name(kind_at(table, name)) {
-        return Why::Because(why_loose(src, table, k, behind(table, name), true));
+        return Ok(why_loose(src, table, k, behind(table, name), true));
     }
-    Why::Refused(Refusal::WrongKind(name))
+    Err(Refusal::WrongKind(name))
 }
 
 // An object without any record has no name either.
-fn of_object(src: &[u8], table: &[u32], k: RecordNo) -> Why
+fn of_object(src: &[u8], table: &[u32], k: RecordNo) -> Result<Option<Reason>, Refusal>
     ensures { result ≡ of_object (script src table) k }
 {
-    let f = peek(table, children_of(table, k));
+    let f = children_of(table, k).peek(table);
     match f {
-        Found::At(name) => of_named(src, table, k, name),
-        Found::None => Why::Refused(Refusal::WrongKind(k)),
+        Some(name) => of_named(src, table, k, name),
+        None => Err(Refusal::WrongKind(k)),
     }
 }
 
-// Over a source and a decoded tree that were opened.
-pub fn why_at(src: &[u8], table: &[u32], k: RecordNo) -> Why
+// Over a source and a decoded tree that were opened: the reason, if there is one, or the refusal.
+pub fn why_at(src: &[u8], table: &[u32], k: RecordNo) -> Result<Option<Reason>, Refusal>
     ensures { result ≡ why_at (script src table) k }
 {
     if size(table).0 <= k.0 {
-        return Why::Refused(Refusal::NoNode(k));
+        return Err(Refusal::NoNode(k));
     }
     let kind = kind_at(table, k);
     if is_list(kind) {
-        return Why::Because(why_loose(src, table, k, children_of(table, k).at, false));
+        return Ok(why_loose(src, table, k, children_of(table, k).at, false));
     }
     if kind == bytes::EXPR_OBJECT {
         return of_object(src, table, k);
     }
-    Why::Refused(Refusal::NoRule(k))
+    Err(Refusal::NoRule(k))
 }
 
 // Over bytes that opening let in.
-fn of_opened(source: &[u8], tree: &[u8], k: RecordNo) -> Why
-    requires { opening source.now tree.now ≡ Done }
+fn of_opened(source: &[u8], tree: &[u8], k: RecordNo) -> Result<Option<Reason>, Refusal>
+    requires { opening source.now tree.now ≡ Ok tt }
     ensures { result ≡ why_at (script_in source.now tree.now) k }
 {
     let mut words = [0u32; 32768];
@@ -90,12 +81,10 @@ fn of_opened(source: &[u8], tree: &[u8], k: RecordNo) -> Why
 }
 
 // Over any bytes.
-pub fn why_in(source: &[u8], tree: &[u8], k: RecordNo) -> Why
+#[tactic(auto, unfolding(crate::specs::Why::why))]
+pub fn why_in(source: &[u8], tree: &[u8], k: RecordNo) -> Result<Option<Reason>, Refusal>
     ensures { result ≡ why source.now tree.now k }
 {
-    let a = opening(source, tree);
-    match a {
-        Answer::Done => of_opened(source, tree, k),
-        Answer::Refused(r) => Why::Refused(r),
-    }
+    opening(source, tree)?;
+    of_opened(source, tree, k)
 }

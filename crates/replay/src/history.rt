@@ -1,8 +1,6 @@
 // One history: a fresh engine over its source and tree, and its steps one by one, calls and, in the file of runs, layout runs.
-ghost use Rattle.std.specs.Prelude.{◌≤◌};
-
+use crate::compare;
 use crate::tally::{Counts, add};
-use crate::{compare, tally};
 use entry::engine;
 use entry::state::{State, Step};
 use format::runs;
@@ -46,8 +44,8 @@ fn one(
     counts: &mut Counts,
 ) -> Next {
     let len = packed::word(file, n.at);
-    let from = packed::plus(n.at, 4);
-    let at = packed::plus(from, len);
+    let from = n.at.saturating_add(4);
+    let at = from.saturating_add(len);
     let state = n.state;
     let bytes = packed::slice(file, from, len);
     let step = step(source, tree, out, state, bytes, with_runs);
@@ -75,13 +73,6 @@ fn steps(
         n = one(file, source, tree, out, n, with_runs, counts);
     }
     n.at
-}
-
-// A buffer of bytes that no call writes.
-fn untouched(out: &mut [u8]) {
-    for i in 0..out.len() {
-        out[i] = 0xEE;
-    }
 }
 
 // Where the source and the tree end in their buffers, and where the file goes on.
@@ -112,22 +103,17 @@ fn play(
     with_runs: bool,
     counts: &mut Counts,
 ) -> usize {
-    untouched(out);
+    // no call writes such bytes
+    out.fill(0xEE);
     let opened = engine::open(source, tree);
     let state = opened.state;
     let first = Next {
-        at: packed::plus(at, 8),
+        at: at.saturating_add(8),
         state,
     };
-    let count = packed::word(file, packed::plus(at, 4));
-    add(counts, tally::HISTORIES, 1);
+    let count = packed::word(file, at.saturating_add(4));
+    add(&mut counts.histories, 1);
     steps(file, source, tree, out, first, count, with_runs, counts)
-}
-
-fn least(a: usize, b: usize) -> usize
-    ensures { result ≤ b }
-{
-    if a <= b { a } else { b }
 }
 
 // The history at the front of the file's bytes, and where the next one stands.
@@ -140,7 +126,7 @@ pub fn run(
     counts: &mut Counts,
 ) -> usize {
     let l = load(file, source, list);
-    let cap = least(packed::word(file, l.at), out.len());
+    let cap = packed::word(file, l.at).min(out.len());
     play(
         file,
         l.at,

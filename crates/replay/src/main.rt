@@ -44,7 +44,7 @@ fn one(
         with_runs,
         counts,
     );
-    packed::plus(at, len)
+    at.saturating_add(len)
 }
 
 fn replay(
@@ -100,11 +100,14 @@ fn report_file<R: Files<File = File> + Print + Alloc>(
     steps: &str,
     with_runs: bool,
 ) -> io::Result<()> {
-    let mut counts = tally::none();
+    let mut counts = Counts::default();
     replay_file(rt, err, path, with_runs, &mut counts)?;
-    let histories = tally::of(&counts, tally::HISTORIES);
-    let went = tally::of(&counts, tally::WENT);
-    let refused = tally::of(&counts, tally::REFUSED);
+    let Counts {
+        histories,
+        went,
+        refused,
+        ..
+    } = counts;
     println!(rt; "{histories} histories: {went} {steps} went, {refused} were refused")?;
     print!(rt; "  ")?;
     tally::report_compared(rt, &counts)
@@ -116,11 +119,11 @@ fn report_planted<R: Files<File = File> + Print + Alloc>(
     err: &impl Print,
     path: &[u8],
 ) -> io::Result<()> {
-    let mut counts = tally::none();
+    let mut counts = Counts::default();
     replay_file(rt, err, path, false, &mut counts)?;
-    let histories = tally::of(&counts, tally::HISTORIES);
+    let histories = counts.histories;
     print!(rt; "{histories} histories with one wrong word, byte or answer each: ")?;
-    tally::report_differ(rt, &counts)
+    tally::report_differ(rt, counts.differ)
 }
 
 fn main(rt: HostRuntime) -> io::Result<()> {

@@ -10,7 +10,7 @@ use Rattle.meaning.specs.Plan.{Plan}
 use Rattle.steps.specs.declared.remaining.Mark.TheVariants.{Comma, SemiColon}
 use Rattle.walk.specs.Stream.{take_if}
 use Rattle.steps.specs.Remaining.{Remaining, is_present, remaining}
-use Rattle.paths.specs.Attribute.{attributes, inner_attributes}
+use Rattle.paths.specs.Attribute.{on_lines, attributes, inner_attributes}
 use Rattle.patterns.specs.Pattern.{pat_attributes, pat_lit}
 use Rattle.gaps.specs.Arms.{arm_comma, open_select, open_match, open_arm, close_arms, close_select}
 use Rattle.gaps.specs.Lines.{open_lines, end_entry, close_lines, key_line, close_keys, next_key}
@@ -184,11 +184,11 @@ module _ (rs : List Record) where
   item_head_lem kind = search (tame, item_struct_lem, item_enum_lem, item_use_lem, fn_head_lem, impl_head_lem, mod_head_lem, const_head_lem) depth 20 fits 4000
 
   pub attributes_tame : Tamed (attributes rs)
-  unfolding attributes
+  unfolding on_lines attributes
   attributes_tame = search tame depth 12 fits 2000
 
   pub inner_attributes_lem : Tamed (inner_attributes rs)
-  unfolding inner_attributes
+  unfolding on_lines inner_attributes
   inner_attributes_lem = search tame depth 12 fits 2000
 
   pub let_head_lem : (local : Bool) → Tamed (let_head rs local)

@@ -7,11 +7,12 @@ use Rattle.tree.specs.declared.record.RecordNo.{RecordNo}
 use Rattle.kinds.specs.declared.Kind.{Kind}
 use Rattle.kinds.specs.Facts.{byte_of}
 use Rattle.meaning.specs.Plan.{Plan}
+use Rattle.steps.specs.declared.items.Few.{Few}
+use Rattle.steps.specs.declared.items.Few.TheVariants.{Zero, One, Many}
 use Rattle.steps.specs.declared.remaining.Mark.TheVariants.{Comma, CloseBrace}
 use Rattle.walk.specs.Stream.{next_is}
 use Rattle.walk.specs.Flow.{is}
 use Rattle.steps.specs.Remaining.{Remaining, says, remaining}
-use Rattle.steps.specs.Items.{Few, Zero, One, Many}
 use Rattle.paths.specs.Path.{path_part, path_rule, generics_rule, path}
 use Rattle.paths.specs.Attribute.{modifier_word, modifier_in, apart, modifier, modifier_list, modifiers}
 use Rattle.patterns.specs.Pattern.{pat_item, pat_array, tuple_end, tupled, tuple_rule, pat_tuple, object_name, colon_pat, object_item, keyed, object_closing, object_end, pat_object, pat_attributes, pat_lit, pat_child, pat, no_comma, fn_args}

@@ -1,8 +1,8 @@
 -- The steps of the rules refuse by record numbers only, in the order of their definitions. Assumes nothing.
+use Rattle.std.specs.Prelude.{Option, Some, None}
 use Rattle.steps.proofs.Rules.{ℕ, zero, suc, Bool, true, false, cond, ◌||◌, List, [], ◌∷◌, length, Record, RecordNo, TreeDeep, WrongKind, Plan}
 use Rattle.steps.proofs.Rules.{nothing, make, refuse, ◌then◌, Stream, records_of, is_byte, next_is, take_if, take_any, Flow, flow, ◌▸◌, plain, write}
 use Rattle.steps.proofs.Rules.{spaced, pump, expect_byte, if_next, parse, Remaining, fmt, ignore, says, put_remaining, Place, turn, listed, suffix, list}
-use Rattle.tree.specs.{declared.cursor.Found.Found, declared.cursor.Found.TheVariants.At, declared.cursor.Found.TheVariants.None}
 use Rattle.meaning.specs.{declared.call.Call.Call, declared.answer.Refusal.TheVariants.NoRule, declared.answer.Refusal.TheVariants.NoNode}
 use Rattle.steps.specs.{declared.remaining.Mark.TheVariants.Comma, declared.remaining.Mark.Mark}
 use Rattle.walk.specs.{Flow.on_found, Flow.eat_byte, Flow.left_in, Loop.turns}
@@ -91,9 +91,9 @@ cond_tamed false a b = b
 
 -- ---- taking the next record
 
-pub found_tame : (o : Found) {f : RecordNo → Plan} {p : Plan} → Each f → IsTame p → IsTame (on_found o f p)
+pub found_tame : (o : Option RecordNo) {f : RecordNo → Plan} {p : Plan} → Each f → IsTame p → IsTame (on_found o f p)
 unfolding on_found
-found_tame (At k) a b = a k
+found_tame (Some k) a b = a k
 found_tame None a b = b
 
 module _ {f : RecordNo → Plan} (a : Each f) where
@@ -153,9 +153,9 @@ ignore_tame Fresh = idle
 ignore_tame (Missing m) = idle
 ignore_tame (Present k) = made
 
-rest_tame : (rs : List Record) (m : Mark) (o : Found) (s : Stream) → IsTame (rest_if rs m o s).plan
+rest_tame : (rs : List Record) (m : Mark) (o : Option RecordNo) (s : Stream) → IsTame (rest_if rs m o s).plan
 unfolding rest_if second
-rest_tame rs m (At k) s = cond_tame (next_is (is_mark rs m) s) wrong idle
+rest_tame rs m (Some k) s = cond_tame (next_is (is_mark rs m) s) wrong idle
 rest_tame rs m None s = idle
 
 pub remaining_tame : (rs : List Record) (m : Mark) (s : Stream) → IsTame (remaining rs m s).plan

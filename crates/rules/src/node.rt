@@ -6,7 +6,7 @@ use bodies::body::variant;
 use bodies::fields::{struct_body, tuple_body};
 use exprs::Lay;
 use kinds::bytes;
-use lent::formatter::{Formatter, refuse};
+use lent::formatter::Formatter;
 use lent::ring::Queue;
 use meaning::answer::Refusal;
 use parts::sorts::{is_decl, is_stmt};
@@ -16,7 +16,7 @@ use patterns::pat::{pat, pat_array, pat_object, pat_tuple};
 use tree::record::RecordNo;
 use tree::table::{kind_at, size};
 use uses::item_use::{item_use_group, use_node};
-use walk::stream::{left_over, records_of};
+use walk::stream::records_of;
 
 // The statements of a body that is no block's: a whole script.
 pub fn content(
@@ -31,7 +31,7 @@ pub fn content(
 {
     let mut p = records_of(table, k);
     Lay::stmts(src, table, fmt, queue, out, &mut p, 63);
-    left_over(table, fmt, &p);
+    p.left_over(table, fmt);
 }
 
 // A call's arguments, in their parentheses.
@@ -71,7 +71,7 @@ fn by_expr(
     ensures { Made src table fmt queue out (by_expr (script src table) kind k) }
 {
     if kind < 0x80 {
-        refuse(fmt, Refusal::NoRule(k));
+        fmt.refuse(Refusal::NoRule(k));
         return;
     }
     Lay::inner(src, table, fmt, queue, out, k, 64);
@@ -145,7 +145,7 @@ pub fn layout(
     ensures { Made src table fmt queue out (layout (script src table) k) }
 {
     if size(table).0 <= k.0 {
-        refuse(fmt, Refusal::NoNode(k));
+        fmt.refuse(Refusal::NoNode(k));
         return;
     }
     rule(src, table, fmt, queue, out, k);

@@ -7,7 +7,7 @@ ghost use Rattle.rules.specs.Whole.{is_script, whole};
 use crate::node::content;
 use calls::{finish, flush_prefix_comments, nl};
 use kinds::bytes;
-use lent::formatter::{Formatter, refuse};
+use lent::formatter::Formatter;
 use lent::ring::Queue;
 use meaning::answer::Refusal;
 use tree::cursor::behind;
@@ -38,5 +38,5 @@ pub fn whole(src: &[u8], table: &[u32], fmt: &mut Formatter, queue: &mut Queue, 
         finish(src, table, fmt, queue, out);
         return;
     }
-    refuse(fmt, Refusal::WrongKind(RecordNo(0)));
+    fmt.refuse(Refusal::WrongKind(RecordNo(0)));
 }

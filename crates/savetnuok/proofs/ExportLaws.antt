@@ -1,4 +1,5 @@
 -- What the exported functions answer and leave, by the branch that they took. Assumes nothing.
+use Rattle.std.specs.Prelude.{Ok, Err}
 use mathlib.Core.Path.{◌≡◌, refl, sym, ap, subst, ◌∙◌}
 use mathlib.Core.Bool.{Bool, true, false, ◌&&◌}
 use mathlib.Core.List.{List}
@@ -10,8 +11,7 @@ use borrow.Author.Tests.{eqb-true, leb-true, eq-eqb, ne_eqb}
 use Rattle.opening.specs.Opening.{opened}
 use Rattle.entry.specs.declared.state.State as code
 use Rattle.entry.specs.declared.state.Step.{Step}
-use Rattle.meaning.specs.declared.answer.Answer.{Answer}
-use Rattle.meaning.specs.declared.answer.Answer.TheVariants.{Done, Refused}
+use Rattle.meaning.specs.Answer.{Answer}
 use Rattle.meaning.specs.State.{Script, State, fresh}
 use Rattle.meaning.specs.Opening.{script_in, opening}
 use Rattle.meaning.specs.Lent.{serve_record}
@@ -36,24 +36,24 @@ use Rattle.wire.proofs.BackLaws.{Words, reads_back, shaped_back}
 -- ---- answers
 
 then_good : (a : Answer) → then_shape a true ≡ a
-then_good Done = refl
-then_good (Refused r) = refl
+then_good (Ok tt) = refl
+then_good (Err r) = refl
 
 then_bad : (a : Answer) → is_refused (then_shape a false) ≡ true
-then_bad Done = refl
-then_bad (Refused r) = refl
+then_bad (Ok tt) = refl
+then_bad (Err r) = refl
 
-is_done : (a : Answer) → is_refused a ≡ false → a ≡ Done
-is_done Done h = refl
-is_done (Refused r) h = let z : ◌≡◌ {A = ℕ} 0 1 = cc in absurd (omega arith)
+is_done : (a : Answer) → is_refused a ≡ false → a ≡ Ok tt
+is_done (Ok tt) h = refl
+is_done (Err r) h = let z : ◌≡◌ {A = ℕ} 0 1 = cc in absurd (omega arith)
 
-never_done : {A : Type 0} (a : Answer) → is_refused a ≡ true → a ≡ Done → A
-never_done Done h e = let z : ◌≡◌ {A = ℕ} 0 1 = cc in absurd (omega arith)
-never_done (Refused r) h e = let z : ◌≡◌ {A = ℕ} 0 1 = cc in absurd (omega arith)
+never_done : {A : Type 0} (a : Answer) → is_refused a ≡ true → a ≡ Ok tt → A
+never_done (Ok tt) h e = let z : ◌≡◌ {A = ℕ} 0 1 = cc in absurd (omega arith)
+never_done (Err r) h e = let z : ◌≡◌ {A = ℕ} 0 1 = cc in absurd (omega arith)
 
 stays : (st : List ℕ) (a : Answer) (s : State) → is_refused a ≡ true → st ≡ state_left st a s
-stays st Done s h = let z : ◌≡◌ {A = ℕ} 0 1 = cc in absurd (omega arith)
-stays st (Refused r) s h = refl
+stays st (Ok tt) s h = let z : ◌≡◌ {A = ℕ} 0 1 = cc in absurd (omega arith)
+stays st (Err r) s h = refl
 
 -- the answer in one number: a is what the meaning answers, a' what the code packed
 record Answers (n : ℕ) (a : Answer) : Type 0 where
@@ -92,7 +92,7 @@ module _ (src tree st : List ℕ) where
     pub open_done : {t : Bool} {s : code.State} {st' : List ℕ} → t ≡ is_refused a → t ≡ false → s ≡ encoded fresh → Wrote (code_words s.now s.queue) st' → Opened src tree st 0 st'
     unfolding packed bytes_of
     open_done {t} {s} {st'} et h es e =
-        let d : open_answer src tree st ≡ Done = good ∙ is_done a (sym et ∙ h) in
+        let d : open_answer src tree st ≡ Ok tt = good ∙ is_done a (sym et ∙ h) in
         record { answer = rw d; place_fits = rw d (omega arith); state = e.bytes_are ∙ rw (es, d) }
 
 -- ---- the shape
@@ -117,8 +117,8 @@ module _ (st : List ℕ) (cap : ℕ) {t : Bool} (e : t ≡ shaped st cap) (h : t
 -- ---- a call or a run, refused
 
 left_answer : (s : code.State) (a : Answer) (t : State) → (left_of s a t).answer ≡ a
-left_answer s Done t = refl
-left_answer s (Refused r) t = refl
+left_answer s (Ok tt) t = refl
+left_answer s (Err r) t = refl
 
 handed_refused : (st : List ℕ) (r : Result) {n : ℕ} {b' : List ℕ} → is_refused r.answer ≡ true → Answers n r.answer → b' ≡ r.left.buffer → Handed st r n st b'
 handed_refused st r h en eb = record {
@@ -147,8 +147,8 @@ module _ (st b : List ℕ) {t : Bool} (et : t ≡ shaped st (length b)) (ht : t 
   asked_refused {n} {u} eu hu en =
       handed_refused st r (agreed.alike ∙ ap is_refused (sym answered) ∙ sym eu ∙ hu) (packs r.answer r'.answer (rw answered at en) agreed.number agreed.place) (served.buffer ∙ sym agreed.buffer)
 
-  module _ (bounds : r'.answer ≡ Done → Bounded (length b) r'.left.state) {u : Bool} (eu : u ≡ is_refused z.answer) (hu : u ≡ false) where
-    went : r'.answer ≡ Done
+  module _ (bounds : r'.answer ≡ Ok tt → Bounded (length b) r'.left.state) {u : Bool} (eu : u ≡ is_refused z.answer) (hu : u ≡ false) where
+    went : r'.answer ≡ Ok tt
     went = is_done r'.answer (ap is_refused (sym answered) ∙ sym eu ∙ hu)
 
     state_is : z.state ≡ encoded r'.left.state
@@ -164,7 +164,7 @@ module _ (st b : List ℕ) {t : Bool} (et : t ≡ shaped st (length b)) (ht : t 
     unfolding packed bytes_of
     asked_done {st'} long e =
         let same : r ≡ r' = agreed.same went in
-        let d : r.answer ≡ Done = ap (λ (y : Result). y.answer) same ∙ went in
+        let d : r.answer ≡ Ok tt = ap (λ (y : Result). y.answer) same ∙ went in
         let k : st' ≡ bytes_of r'.left.state = e.bytes_are ∙ ap (λ (y : code.State). in_bytes (code_words y.now y.queue)) state_is in
         let v = words e.fit in
         record {
@@ -180,8 +180,8 @@ module _ (st b : List ℕ) {t : Bool} (et : t ≡ shaped st (length b)) (ht : t 
 
 refused_first : (a : Answer) (x : Script) (w : World) (bytes : List ℕ) → is_refused a ≡ true → call_record a x w bytes ≡ result a w
 unfolding call_record serve_record
-refused_first Done x w bytes h = let z : ◌≡◌ {A = ℕ} 0 1 = cc in absurd (omega arith)
-refused_first (Refused r) x w bytes h = refl
+refused_first (Ok tt) x w bytes h = let z : ◌≡◌ {A = ℕ} 0 1 = cc in absurd (omega arith)
+refused_first (Err r) x w bytes h = refl
 
 module _ (src tree st b bytes : List ℕ) {t : Bool} (et : t ≡ shaped st (length b)) where
   pub call_misshapen : {n : ℕ} {a a' : Answer} → t ≡ false → a ≡ opening src tree → a' ≡ then_shape a false → Packed 0 a' n → Called src tree st b bytes n st b
@@ -207,7 +207,7 @@ module _ (src tree st b bytes : List ℕ) {t : Bool} (et : t ≡ shaped st (leng
         let f : shaped st (length b) ≡ true = sym et ∙ ht in
         rw (f, then_good (opening src tree)) (agree (opening src tree) (script_in src tree) st b bytes len_small (open_placed (opened src tree) (word_at st 4)))
 
-    bounded : by_engine.answer ≡ Done → Bounded (length b) by_engine.left.state
+    bounded : by_engine.answer ≡ Ok tt → Bounded (length b) by_engine.left.state
     unfolding by_engine
     bounded = record_bounded (opening src tree) (script_in src tree) (world (state_of (code_state st)) b) bytes
 
@@ -244,7 +244,7 @@ module _ (src tree st b : List ℕ) (p : Plan) (a : Tame p) {t : Bool} (et : t �
         let f : shaped st (length b) ≡ true = sym et ∙ ht in
         rw f (agree_run (opening src tree) (script_in src tree) st b p laid_small (shape_fits st (length b) et ht) (open_placed (opened src tree) (word_at st 4)) a)
 
-    laid_bounded : by_rules.answer ≡ Done → Bounded (length b) by_rules.left.state
+    laid_bounded : by_rules.answer ≡ Ok tt → Bounded (length b) by_rules.left.state
     unfolding by_rules
     laid_bounded =
         run_bounded (script_in src tree) (world (state_of (code_state st)) b) laid_small (opening src tree) (open_placed (opened src tree) (min (word_at st 4) 255)) (shape_fits st (length b) et ht) p

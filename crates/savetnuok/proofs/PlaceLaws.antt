@@ -1,4 +1,5 @@
 -- The place of every refusal of an opening or of a call record is the word that the code names. Assumes nothing.
+use Rattle.std.specs.Prelude.{Ok, Err}
 use mathlib.Core.Path.{◌≡◌, refl}
 use Prim.Native.Nat.{ℕ, zero, suc, ◌-◌, ◌%◌, ◌≤◌, ◌<◌, min}
 use native.Mathlib.Nat.{min-eq_left, min-eq_right}
@@ -9,14 +10,14 @@ use lib.ListN.{length}
 use lib.Dec.{leb, ltb}
 use borrow.Author.Tests.{leb-true, leb-false, le-ltb}
 use mathlib.Core.Option.{Option, none, some}
-use Rattle.opening.specs.declared.open.Opening.{Opening}
-use Rattle.opening.specs.declared.open.Opening.TheVariants as found
+use Rattle.opening.specs.Opening.{Opening}
+use Rattle.std.specs.Prelude.{Ok, Err}
+use Rattle.opening.specs.declared.open.Unopened.TheVariants as found
 use Rattle.tree.specs.declared.record.RecordNo.{RecordNo}
 use Rattle.meaning.specs.declared.call.Call.{Call}
 use Rattle.meaning.specs.declared.call.Call.TheVariants.{WriteOwned, WriteRaw, Ignore, Lit, Comments, Indent, Nl, Ws, FlushWhitespace, FlushPrefixComments, Finish}
 use Rattle.meaning.specs.declared.answer.Refusal.{Refusal}
-use Rattle.meaning.specs.declared.answer.Answer.{Answer}
-use Rattle.meaning.specs.declared.answer.Answer.TheVariants.{Done, Refused}
+use Rattle.meaning.specs.Answer.{Answer}
 use Rattle.meaning.specs.declared.answer.Refusal.TheVariants.{BadCall}
 use Rattle.meaning.specs.State.{Script, Comment, State}
 use Rattle.meaning.specs.Pieces.{Piece, Emit}
@@ -112,8 +113,8 @@ module _ {indent : ℕ} (x : Script) (cap : ℕ) (s : State) (own-len : s.len �
 
   lent_placed : (a : Answer) {k : Outcome} → (seen a).place ≡ place_word indent a → Placed indent k → Placed indent (lent a x cap s k)
   unfolding lent_state
-  lent_placed Done e p = refuse_placed _ _ own-len (refuse_placed _ _ refl (refuse_placed _ _ own-level p))
-  lent_placed (Refused r) e p = stops e
+  lent_placed (Ok tt) e p = refuse_placed _ _ own-len (refuse_placed _ _ refl (refuse_placed _ _ own-level p))
+  lent_placed (Err r) e p = stops e
 
 made_placed : {indent : ℕ} (w : World) (o : Outcome) → Placed indent o → (seen (made w o).answer).place ≡ place_word indent (made w o).answer
 made_placed w (done s ps) p = refl
@@ -131,14 +132,14 @@ record_placed a x w bytes small e =
 -- ---- an opening
 
 pub open_placed : (o : Opening) (indent : ℕ) → (seen (answer_to o)).place ≡ place_word indent (answer_to o)
-open_placed (found.Good n) indent = refl
-open_placed found.SourceLong indent = refl
-open_placed (found.SourceIll i) indent = refl
-open_placed (found.TreeBad i) indent = refl
-open_placed (found.TreeDeep i) indent = refl
+open_placed (Ok n) indent = refl
+open_placed (Err found.SourceLong) indent = refl
+open_placed (Err (found.SourceIll i)) indent = refl
+open_placed (Err (found.TreeBad i)) indent = refl
+open_placed (Err (found.TreeDeep i)) indent = refl
 
 -- and the shape behind it
 pub shape_placed : (a : Answer) (t : Bool) (indent : ℕ) → (seen a).place ≡ place_word indent a → (seen (then_shape a t)).place ≡ place_word indent (then_shape a t)
-shape_placed Done true indent e = refl
-shape_placed Done false indent e = refl
-shape_placed (Refused r) t indent e = e
+shape_placed (Ok tt) true indent e = refl
+shape_placed (Ok tt) false indent e = refl
+shape_placed (Err r) t indent e = e

@@ -1,4 +1,5 @@
 -- The state that the engine is handed against the state that the bytes mean: the same, or both are refused alike. Assumes nothing.
+use Rattle.std.specs.Prelude.{Ok, Err}
 use mathlib.Core.Path.{◌≡◌, refl, sym, ap, ◌∙◌}
 use mathlib.Core.Bool.{Bool, true, false, cond, ◌||◌}
 use mathlib.Core.List.{List}
@@ -10,8 +11,7 @@ use lib.Dec.{leb, ltb}
 use borrow.Author.Tests.{leb-true, leb-false, lt-ltb}
 use Rattle.meaning.specs.declared.answer.Refusal.{Refusal}
 use Rattle.meaning.specs.declared.answer.Refusal.TheVariants.{NoRoom, QueueFull, IndentOut}
-use Rattle.meaning.specs.declared.answer.Answer.{Answer}
-use Rattle.meaning.specs.declared.answer.Answer.TheVariants.{Done, Refused}
+use Rattle.meaning.specs.Answer.{Answer}
 use Rattle.meaning.specs.State.{Script, Comment, State}
 use Rattle.meaning.specs.Outcome.{Outcome, refused, refuse_if}
 use Rattle.meaning.specs.CallRecord.{decode, asked}
@@ -60,11 +60,11 @@ module _ (st : List ℕ) where
 -- ---- states that 5 or 6 refuse, whatever is asked of them
 
 abbrev pub early : Answer → Bool → Bool → ℕ → ℕ → Refusal
-early (Refused r) t4 t5 len indent = r
-early Done t4 t5 len indent = cond t4 (NoRoom len) (cond t5 (QueueFull (record { 0 = 8192 })) (IndentOut indent))
+early (Err r) t4 t5 len indent = r
+early (Ok tt) t4 t5 len indent = cond t4 (NoRoom len) (cond t5 (QueueFull (record { 0 = 8192 })) (IndentOut indent))
 
 pub tests : (t4 t5 t6 : Bool) (len indent : ℕ) (o : Outcome) → t5 || t6 ≡ true
-    → refuse_if t4 (NoRoom len) (refuse_if t5 (QueueFull (record { 0 = 8192 })) (refuse_if t6 (IndentOut indent) o)) ≡ refused (early Done t4 t5 len indent)
+    → refuse_if t4 (NoRoom len) (refuse_if t5 (QueueFull (record { 0 = 8192 })) (refuse_if t6 (IndentOut indent) o)) ≡ refused (early (Ok tt) t4 t5 len indent)
 unfolding refuse_if
 tests true t5 t6 len indent o h = refl
 tests false true t6 len indent o h = refl
@@ -86,28 +86,28 @@ pub record Agree (indent : ℕ) (r r' : Result) : Type 0 where
   pub place : (seen r.answer).place ≡ place_word indent r'.answer
   pub alike : is_refused r.answer ≡ is_refused r'.answer
   pub buffer : r.left.buffer ≡ r'.left.buffer
-  pub same : r'.answer ≡ Done → r ≡ r'
+  pub same : r'.answer ≡ Ok tt → r ≡ r'
 
 agree_refused : {indent : ℕ} (r r' : Refusal) (w w' : World) → (refusal_seen r).number ≡ (refusal_seen r').number → (refusal_seen r).place ≡ refusal_place indent r' → w.buffer ≡ w'.buffer
-    → Agree indent (result (Refused r) w) (result (Refused r') w')
+    → Agree indent (result (Err r) w) (result (Err r') w')
 agree_refused r r' w w' n p b = record { number = n; place = p; alike = refl; buffer = b; same = λ e. let z : ◌≡◌ {A = ℕ} 0 1 = cc in absurd (omega arith) }
 
 early_number : (a : Answer) (t4 t5 : Bool) (len indent indent' : ℕ) → (refusal_seen (early a t4 t5 len indent)).number ≡ (refusal_seen (early a t4 t5 len indent')).number
-early_number Done true t5 len indent indent' = refl
-early_number Done false true len indent indent' = refl
-early_number Done false false len indent indent' = refl
-early_number (Refused r) t4 t5 len indent indent' = refl
+early_number (Ok tt) true t5 len indent indent' = refl
+early_number (Ok tt) false true len indent indent' = refl
+early_number (Ok tt) false false len indent indent' = refl
+early_number (Err r) t4 t5 len indent indent' = refl
 
 early_placed : (a : Answer) (t4 t5 : Bool) (len indent : ℕ) → len < 0x100000000 → (seen a).place ≡ place_word indent a
     → (refusal_seen (early a t4 t5 len indent)).place ≡ refusal_place indent (early a t4 t5 len (min indent 255))
-early_placed Done true t5 len indent l e = omega arith
-early_placed Done false true len indent l e = refl
-early_placed Done false false len indent l e = handed_indent indent
-early_placed (Refused r) t4 t5 len indent l e = e
+early_placed (Ok tt) true t5 len indent l e = omega arith
+early_placed (Ok tt) false true len indent l e = refl
+early_placed (Ok tt) false false len indent l e = handed_indent indent
+early_placed (Err r) t4 t5 len indent l e = e
 
 -- for whatever is asked of a state: refused early it leaves the state, and a buffer that hangs on its length
 module _ (a : Answer) (x : Script) (st b : List ℕ) (does : State → Result) (left : ℕ → List ℕ)
-    (stopped : (s : State) → fifth x s || ltb 64 s.indent ≡ true → does s ≡ result (Refused (early a (ltb (length b) s.len) (fifth x s) s.len s.indent)) (world s (left s.len)))
+    (stopped : (s : State) → fifth x s || ltb 64 s.indent ≡ true → does s ≡ result (Err (early a (ltb (length b) s.len) (fifth x s) s.len s.indent)) (world s (left s.len)))
     (small : word_at st 0 < 0x100000000) (opened : (seen a).place ≡ place_word (word_at st 4) a) (placed : (seen (does (state_in st)).answer).place ≡ place_word (word_at st 4) (does (state_in st)).answer) where
   same_state : state_in st ≡ state_of (code_state st) → Agree (word_at st 4) (does (state_in st)) (does (state_of (code_state st)))
   same_state h =
@@ -152,10 +152,10 @@ module _ (a : Answer) (x : Script) (st b : List ℕ) (does : State → Result) (
 -- ---- a call record
 
 refused_early : (a : Answer) (x : Script) (s : State) (b : List ℕ) (bytes : List ℕ) → fifth x s || ltb 64 s.indent ≡ true
-    → call_record a x (world s b) bytes ≡ result (Refused (early a (ltb (length b) s.len) (fifth x s) s.len s.indent)) (world s b)
+    → call_record a x (world s b) bytes ≡ result (Err (early a (ltb (length b) s.len) (fifth x s) s.len s.indent)) (world s b)
 unfolding call_record serve_record lent_state
-refused_early (Refused r) x s b bytes h = refl
-refused_early Done x s b bytes h = rw (tests (ltb (length b) s.len) (fifth x s) (ltb 64 s.indent) s.len s.indent (asked 0 (decode bytes) (step x (length b) s)) h)
+refused_early (Err r) x s b bytes h = refl
+refused_early (Ok tt) x s b bytes h = rw (tests (ltb (length b) s.len) (fifth x s) (ltb 64 s.indent) s.len s.indent (asked 0 (decode bytes) (step x (length b) s)) h)
 
 pub agree : (a : Answer) (x : Script) (st b bytes : List ℕ) → word_at st 0 < 0x100000000 → (seen a).place ≡ place_word (word_at st 4) a
     → Agree (word_at st 4) (call_record a x (world (state_in st) b) bytes) (call_record a x (world (state_of (code_state st)) b) bytes)

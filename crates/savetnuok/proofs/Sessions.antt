@@ -1,4 +1,5 @@
 -- A session through bytes is a history through states, so demand 3 holds of what it leaves. Assumes nothing.
+use Rattle.std.specs.Prelude.{Ok, Err}
 use mathlib.Core.Path.{◌≡◌, refl, sym, ap, subst, ◌∙◌}
 use mathlib.Core.Bool.{Bool, true, false, ◌&&◌}
 use mathlib.Core.List.{List, map}
@@ -8,8 +9,7 @@ use lib.ListN.{length, get_or, replicate}
 use lib.Dec.{T, eqb}
 use borrow.Author.Tests.{leb-true}
 use Rattle.meaning.specs.declared.answer.Refusal.{Refusal}
-use Rattle.meaning.specs.declared.answer.Answer.{Answer}
-use Rattle.meaning.specs.declared.answer.Answer.TheVariants.{Done, Refused}
+use Rattle.meaning.specs.Answer.{Answer}
 use Rattle.meaning.specs.State.{fresh}
 use Rattle.meaning.specs.Opening.{script_in, opening}
 use Rattle.meaning.specs.Numbers.{refusal_seen}
@@ -50,14 +50,14 @@ first_holds : (a b : Bool) → T (a && b) → a ≡ true
 first_holds true b h = refl
 first_holds false b h = absurd h
 
-pub zero_done : (a : Answer) → packed a ≡ 0 → a ≡ Done
+pub zero_done : (a : Answer) → packed a ≡ 0 → a ≡ Ok tt
 unfolding packed
-zero_done Done e = refl
-zero_done (Refused r) e = let l : 1 ≤ (refusal_seen r).number = leb-true 1 (refusal_seen r).number (first_holds _ _ (one_to_twelve r)) in absurd (omega arith)
+zero_done (Ok tt) e = refl
+zero_done (Err r) e = let l : 1 ≤ (refusal_seen r).number = leb-true 1 (refusal_seen r).number (first_holds _ _ (one_to_twelve r)) in absurd (omega arith)
 
-then_done : (a : Answer) (t : Bool) → then_shape a t ≡ Done → a ≡ Done
-then_done Done t e = refl
-then_done (Refused r) t e = e
+then_done : (a : Answer) (t : Bool) → then_shape a t ≡ Ok tt → a ≡ Ok tt
+then_done (Ok tt) t e = refl
+then_done (Err r) t e = e
 
 -- ---- one call, or one run of a plan
 
@@ -71,58 +71,58 @@ record Kept (st b : List ℕ) (w : World) : Type 0 where
   state : w.state ≡ state_in st
   size : capacity w ≡ length b
 
-link : (st b : List ℕ) (r : Result) {n : ℕ} {st₁ b₁ : List ℕ} → Handed st r n st₁ b₁ → shaped st (length b) ≡ true → ((q : Refusal) → r.answer ≡ Refused q → Kept st b r.left) → Linked r.left st₁ b₁
+link : (st b : List ℕ) (r : Result) {n : ℕ} {st₁ b₁ : List ℕ} → Handed st r n st₁ b₁ → shaped st (length b) ≡ true → ((q : Refusal) → r.answer ≡ Err q → Kept st b r.left) → Linked r.left st₁ b₁
 link st b r {n} {st₁} {b₁} h s kept = go r.answer refl
   where
     go : (a : Answer) → r.answer ≡ a → Linked r.left st₁ b₁
-    go Done e = record { means = rw (h.reads e, h.buffer); shape = h.shape e }
-    go (Refused q) e =
+    go (Ok tt) e = record { means = rw (h.reads e, h.buffer); shape = h.shape e }
+    go (Err q) e =
         let k = kept q e in
         let es : st₁ ≡ st = h.state ∙ rw e in
         record { means = rw (es, h.buffer, ← k.state); shape = rw (es, h.buffer, k.size) s }
 
-module _ (src tree : List ℕ) (opens : opening src tree ≡ Done) where
+module _ (src tree : List ℕ) (opens : opening src tree ≡ Ok tt) where
   call_link : (st b bytes : List ℕ) {st₁ b₁ : List ℕ} {n : ℕ} → Called src tree st b bytes n st₁ b₁ → shaped st (length b) ≡ true
-      → Linked (call_record Done (script_in src tree) (world (state_in st) b) bytes).left st₁ b₁
+      → Linked (call_record (Ok tt) (script_in src tree) (world (state_in st) b) bytes).left st₁ b₁
   call_link st b bytes {st₁} {b₁} {n} c h =
-      let q : call_result src tree st b bytes ≡ call_record Done (script_in src tree) (world (state_in st) b) bytes = rw (opens, h) in
-      link st b (call_record Done (script_in src tree) (world (state_in st) b) bytes) (subst (λ (r : Result). Handed st r n st₁ b₁) q c) h λ r e.
-      let l = record_refused Done (script_in src tree) (world (state_in st) b) bytes r e in
+      let q : call_result src tree st b bytes ≡ call_record (Ok tt) (script_in src tree) (world (state_in st) b) bytes = rw (opens, h) in
+      link st b (call_record (Ok tt) (script_in src tree) (world (state_in st) b) bytes) (subst (λ (r : Result). Handed st r n st₁ b₁) q c) h λ r e.
+      let l = record_refused (Ok tt) (script_in src tree) (world (state_in st) b) bytes r e in
       record { state = ap (λ (w : World). w.state) l; size = ap capacity l }
 
   run_link : (st b : List ℕ) (p : Plan) {st₁ b₁ : List ℕ} {n : ℕ} → Laid src tree st b p n st₁ b₁ → shaped st (length b) ≡ true
-      → Linked (run Done (script_in src tree) (world (state_in st) b) p).left st₁ b₁
+      → Linked (run (Ok tt) (script_in src tree) (world (state_in st) b) p).left st₁ b₁
   run_link st b p {st₁} {b₁} {n} c h =
-      let q : run_result src tree st b p ≡ run Done (script_in src tree) (world (state_in st) b) p = rw (opens, h) in
-      link st b (run Done (script_in src tree) (world (state_in st) b) p) (subst (λ (r : Result). Handed st r n st₁ b₁) q c) h λ r e.
-      let l = run_refused Done (script_in src tree) (world (state_in st) b) p r e in
+      let q : run_result src tree st b p ≡ run (Ok tt) (script_in src tree) (world (state_in st) b) p = rw (opens, h) in
+      link st b (run (Ok tt) (script_in src tree) (world (state_in st) b) p) (subst (λ (r : Result). Handed st r n st₁ b₁) q c) h λ r e.
+      let l = run_refused (Ok tt) (script_in src tree) (world (state_in st) b) p r e in
       record { state = l.state; size = l.size }
 
   -- ---- all turns of a session
 
   row : {st b st' b' : List ℕ} {turns : List Turn} → Session src tree st b turns st' b' → shaped st (length b) ≡ true
-      → world (state_in st') b' ≡ after Done (script_in src tree) (world (state_in st) b) (map (event_of src tree) turns)
+      → world (state_in st') b' ≡ after (Ok tt) (script_in src tree) (world (state_in st) b) (map (event_of src tree) turns)
   unfolding after
   row ended h = refl
   row {st} {b} (called {bytes} {more} c s) h =
       let l = call_link st b bytes c h in
-      row s l.shape ∙ ap (λ (w : World). after Done (script_in src tree) w (map (event_of src tree) more)) l.means
+      row s l.shape ∙ ap (λ (w : World). after (Ok tt) (script_in src tree) w (map (event_of src tree) more)) l.means
   row {st} {b} (laid {k} {more} c s) h =
       let l = run_link st b (layout_of src tree k) c h in
-      row s l.shape ∙ ap (λ (w : World). after Done (script_in src tree) w (map (event_of src tree) more)) l.means
+      row s l.shape ∙ ap (λ (w : World). after (Ok tt) (script_in src tree) w (map (event_of src tree) more)) l.means
   row {st} {b} (laid_whole {more} c s) h =
       let l = run_link st b (whole_of src tree) c h in
-      row s l.shape ∙ ap (λ (w : World). after Done (script_in src tree) w (map (event_of src tree) more)) l.means
+      row s l.shape ∙ ap (λ (w : World). after (Ok tt) (script_in src tree) w (map (event_of src tree) more)) l.means
 
 -- demand 3 at the level of the functions that C calls, over every history of calls, runs and layouts: from an opening that answered 0, over a buffer
 -- whose length fits a word, of the state and the buffer that the session leaves
 pub session_demand3 : (src tree st₀ buf : List ℕ) {st st' b' : List ℕ} {turns : List Turn} → Opened src tree st₀ 0 st → length buf ≤ 0xFFFFFFFF → Session src tree st buf turns st' b'
-    → Demand3 (script_in src tree) (went Done (script_in src tree) (World.opened buf) (map (event_of src tree) turns)) (world (state_in st') b')
+    → Demand3 (script_in src tree) (went (Ok tt) (script_in src tree) (World.opened buf) (map (event_of src tree) turns)) (world (state_in st') b')
 session_demand3 src tree st₀ buf {st} {st'} {b'} {turns} o fits s =
-    let d : open_answer src tree st₀ ≡ Done = zero_done (open_answer src tree st₀) (sym o.answer) in
-    let opens : opening src tree ≡ Done = then_done (opening src tree) (eqb (length st₀) 4128) d in
+    let d : open_answer src tree st₀ ≡ Ok tt = zero_done (open_answer src tree st₀) (sym o.answer) in
+    let opens : opening src tree ≡ Ok tt = then_done (opening src tree) (eqb (length st₀) 4128) d in
     let e : st ≡ bytes_of fresh = o.state ∙ rw d in
-    let r : world (state_in st') b' ≡ after Done (script_in src tree) (World.opened buf) (map (event_of src tree) turns) =
+    let r : world (state_in st') b' ≡ after (Ok tt) (script_in src tree) (World.opened buf) (map (event_of src tree) turns) =
     row src tree opens s (rw e (shaped_back fresh fresh_words (length buf) fits))
-    ∙ ap (λ (w : World). after Done (script_in src tree) w (map (event_of src tree) turns)) (rw (e, reads_back fresh fresh_words)) in
+    ∙ ap (λ (w : World). after (Ok tt) (script_in src tree) w (map (event_of src tree) turns)) (rw (e, reads_back fresh fresh_words)) in
     rw r (demand3_opened src tree opens buf (map (event_of src tree) turns))

@@ -4,7 +4,7 @@ use Prim.Native.Nat.{ℕ, ◌/◌, ◌%◌, ◌<◌}
 use native.Mathlib.Omega.{arith}
 use mathlib.Core.List.{List}
 use Rattle.tree.specs.declared.record.RecordNo.{RecordNo}
-use Rattle.meaning.specs.declared.answer.Answer.{Answer}
+use Rattle.meaning.specs.Answer.{Answer}
 use Rattle.meaning.specs.Numbers.{seen}
 use Rattle.meaning.specs.World.{Result}
 use Rattle.meaning.specs.Plan.{Plan}

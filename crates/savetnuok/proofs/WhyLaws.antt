@@ -6,9 +6,9 @@ use Prim.Native.Nat.{ℕ, ◌*◌, ◌≤◌}
 use native.Mathlib.Omega.{arith}
 use lib.ListN.{length}
 use lib.Dec.{eqb, leb, ltb}
+use Rattle.std.specs.Prelude.{Option, Ok, Err}
 use borrow.Author.Tests.{eqb-true, eqb-false}
 use Rattle.tree.specs.declared.record.RecordNo.{RecordNo}
-use Rattle.tree.specs.declared.cursor.Found.{Found}
 use Rattle.tree.specs.Table.{node_of}
 use Rattle.tree.specs.Cursor.{shown, kept, behind, children_of, head_of, peek_of}
 use Rattle.kinds.specs.declared.Kind.{Kind}
@@ -27,8 +27,6 @@ use Rattle.exprs.specs.Rule.{Rule}
 use Rattle.exprs.specs.List.{loose, compact, exprs, rows, row, object, behind_name}
 use Rattle.exprs.specs.Lay.{inner, below, lay}
 use Rattle.rules.specs.Rules.{arguments, by_expr, by_part, rule_of, rule, layout}
-use Rattle.reasons.specs.declared.why.Why.{Why}
-use Rattle.reasons.specs.declared.why.Why.TheVariants.{Refused, Because}
 use Rattle.reasons.specs.Why.{is_list, is_name, of_named, of_first, of_object, of_kind, why_at}
 use Rattle.reasons.proofs.Laws.{none_compact, reason_loose, why_opened}
 use Rattle.savetnuok.specs.Why.{Told, exprs_as, object_as, layout_as, Decides}
@@ -50,42 +48,42 @@ module _ (x : Script) (k : RecordNo) where
 
   -- ---- what is told
 
-  module _ {r : Reason} where
+  module _ {r : Option Reason} where
     -- by the object's name
-    by_name : (n : ℕ) (t : Bool) → cond t (Because (reason x true k (behind x.tree n))) (Refused (WrongKind (record { 0 = n }))) ≡ Because r → reason x true k (behind x.tree n) ≡ r
+    by_name : (n : ℕ) (t : Bool) → cond t (Ok (reason x true k (behind x.tree n))) (Err (WrongKind (record { 0 = n }))) ≡ Ok r → reason x true k (behind x.tree n) ≡ r
     by_name n true e = cc
     by_name n false e = let z : ◌≡◌ {A = ℕ} 0 1 = cc in absurd (omega arith)
 
-    object_told : (node_of x.tree k.0).kind ≡ byte_of Kind.ExprObject → of_object x k ≡ Because r → rule x k ≡ layout_as x (is_loose r) k
+    object_told : (node_of x.tree k.0).kind ≡ byte_of Kind.ExprObject → of_object x k ≡ Ok r → rule x k ≡ layout_as x (is_loose r) k
     unfolding of_object of_first of_named
-    object_told q e = object_as_lem q ∙ ap (λ (s : Reason). layout_as x (is_loose s) k) (go (kept x.tree (shown x.tree (children_of x.tree k.0))) e)
+    object_told q e = object_as_lem q ∙ ap (λ (s : Option Reason). layout_as x (is_loose s) k) (go (kept x.tree (shown x.tree (children_of x.tree k.0))) e)
       where
-        go : (ks : List ℕ) → of_first x k (head_of ks) ≡ Because r → reason x true k (behind_name x.tree ks) ≡ r
+        go : (ks : List ℕ) → of_first x k (head_of ks) ≡ Ok r → reason x true k (behind_name x.tree ks) ≡ r
         go [] e = let z : ◌≡◌ {A = ℕ} 0 1 = cc in absurd (omega arith)
         go (n ∷ ns) e = by_name n (is_name (node_of x.tree n).kind) e
 
-    kind_told : of_kind x (node_of x.tree k.0).kind k ≡ Because r → rule x k ≡ layout_as x (is_loose r) k
+    kind_told : of_kind x (node_of x.tree k.0).kind k ≡ Ok r → rule x k ≡ layout_as x (is_loose r) k
     unfolding of_kind is_list
     kind_told = go (eqb kind (byte_of Kind.ExprCall)) refl (eqb kind (byte_of Kind.ExprArray)) refl (eqb kind (byte_of Kind.ExprObject)) refl
       where
         kind : ℕ
         kind = (node_of x.tree k.0).kind
 
-        why : Reason
+        why : Option Reason
         why = reason x false k (children_of x.tree k.0).at.0
 
         go : (a : Bool) → eqb kind (byte_of Kind.ExprCall) ≡ a → (b : Bool) → eqb kind (byte_of Kind.ExprArray) ≡ b → (c : Bool) → eqb kind (byte_of Kind.ExprObject) ≡ c
-            → cond (a || b) (Because why) (cond c (of_object x k) (Refused (NoRule k))) ≡ Because r → rule x k ≡ layout_as x (is_loose r) k
-        go true ea b eb c ec e = let z : why ≡ r = cc in call_as (eqb-true _ _ ea) ∙ ap (λ (s : Reason). layout_as x (is_loose s) k) z
-        go false ea true eb c ec e = let z : why ≡ r = cc in array_as (eqb-true _ _ eb) ∙ ap (λ (s : Reason). layout_as x (is_loose s) k) z
+            → cond (a || b) (Ok why) (cond c (of_object x k) (Err (NoRule k))) ≡ Ok r → rule x k ≡ layout_as x (is_loose r) k
+        go true ea b eb c ec e = let z : why ≡ r = cc in call_as (eqb-true _ _ ea) ∙ ap (λ (s : Option Reason). layout_as x (is_loose s) k) z
+        go false ea true eb c ec e = let z : why ≡ r = cc in array_as (eqb-true _ _ eb) ∙ ap (λ (s : Option Reason). layout_as x (is_loose s) k) z
         go false ea false eb true ec e = object_told (eqb-true _ _ ec) e
         go false ea false eb false ec e = let z : ◌≡◌ {A = ℕ} 0 1 = cc in absurd (omega arith)
 
-    layout_told : why_at x k ≡ Because r → layout x k ≡ layout_as x (is_loose r) k
+    layout_told : why_at x k ≡ Ok r → layout x k ≡ layout_as x (is_loose r) k
     unfolding why_at layout
     layout_told = go (leb (length x.tree) k.0)
       where
-        go : (t : Bool) → cond t (Refused (NoNode k)) (of_kind x (node_of x.tree k.0).kind k) ≡ Because r → cond t (refuse (NoNode k)) (rule x k) ≡ layout_as x (is_loose r) k
+        go : (t : Bool) → cond t (Err (NoNode k)) (of_kind x (node_of x.tree k.0).kind k) ≡ Ok r → cond t (refuse (NoNode k)) (rule x k) ≡ layout_as x (is_loose r) k
         go true e = let z : ◌≡◌ {A = ℕ} 0 1 = cc in absurd (omega arith)
         go false e = kind_told e
 

@@ -1,8 +1,7 @@
 -- What the exported functions promise: the answer's number, and every byte of the lent state and of the lent buffer. Assumes nothing.
-use Rattle.std.specs.Prelude.{◌≡◌, ℕ, ◌+◌, ◌*◌, ◌<◌, Bool, true, false, cond, List, length, eqb}
+use Rattle.std.specs.Prelude.{◌≡◌, ℕ, ◌+◌, ◌*◌, ◌<◌, Bool, true, false, cond, List, length, eqb, Ok, Err}
 use Rattle.meaning.specs.declared.answer.Refusal.TheVariants.{QueueFull}
-use Rattle.meaning.specs.declared.answer.Answer.{Answer}
-use Rattle.meaning.specs.declared.answer.Answer.TheVariants.{Done, Refused}
+use Rattle.meaning.specs.Answer.{Answer}
 use Rattle.meaning.specs.State.{State, fresh}
 use Rattle.meaning.specs.Opening.{script_in, opening}
 use Rattle.meaning.specs.Numbers.{seen}
@@ -21,14 +20,14 @@ packed a = (seen a).number * 0x100000000 + (seen a).place
 
 -- the shape is asked right behind 1, 2, 3, 7: refusal 5, place 8,192
 abbrev pub then_shape : Answer → Bool → Answer
-then_shape (Refused r) good = Refused r
-then_shape Done true = Done
-then_shape Done false = Refused (QueueFull (record { 0 = 8192 }))
+then_shape (Err r) good = Err r
+then_shape (Ok tt) true = Ok tt
+then_shape (Ok tt) false = Err (QueueFull (record { 0 = 8192 }))
 
 -- a refusal leaves the state's bytes; else they are written whole
 abbrev pub state_left : List ℕ → Answer → State → List ℕ
-state_left st Done s = bytes_of s
-state_left st (Refused r) s = st
+state_left st (Ok tt) s = bytes_of s
+state_left st (Err r) s = st
 
 -- ---- open: 1, 2, 3, 7, then the state's length
 
@@ -49,8 +48,8 @@ pub record Handed (st : List ℕ) (r : Result) (n : ℕ) (st' b' : List ℕ) : T
   pub state : st' ≡ state_left st r.answer r.left.state
   pub buffer : b' ≡ r.left.buffer
   -- what was written reads back as the state that is left, and can be lent again
-  pub reads : r.answer ≡ Done → state_in st' ≡ r.left.state
-  pub shape : r.answer ≡ Done → shaped st' (length b') ≡ true
+  pub reads : r.answer ≡ Ok tt → state_in st' ≡ r.left.state
+  pub shape : r.answer ≡ Ok tt → shaped st' (length b') ≡ true
 
 -- ---- call: 1, 2, 3, 7, the shape, then whatever the call record meets
 

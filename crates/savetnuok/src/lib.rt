@@ -12,7 +12,6 @@ use entry::engine::record;
 use entry::state::{fresh, now_of, started};
 use format::ended::zero_from;
 use format::runs::{Wanted, run_in};
-use lent::formatter::{answer, count, head, stopped};
 use lent::ring::tidy;
 use meaning::answer::{Answer, Refusal};
 use packing::numbers::packed;
@@ -26,18 +25,16 @@ use wire::word::word;
 fn misshapen(a: Answer) -> Answer
     ensures { result ≡ then_shape a false }
 {
-    match a {
-        Answer::Done => Answer::Refused(Refusal::QueueFull(RecordNo(8192))),
-        Answer::Refused(r) => Answer::Refused(r),
-    }
+    a?;
+    Err(Refusal::QueueFull(RecordNo(8192)))
 }
 
 fn refused(a: Answer) -> bool
     ensures { result ≡ is_refused a }
 {
     match a {
-        Answer::Done => false,
-        Answer::Refused(_) => true,
+        Ok(()) => false,
+        Err(_) => true,
     }
 }
 
@@ -81,8 +78,8 @@ pub fn savetnuok_call(
     packed(misshapen(opening(source, tree)), 0)
 }
 
-// A run in place: the state's words go into the engine's, and back where nothing was refused. Refused, it zeroes the buffer from the state's
-// length on, unless the shape is wrong: then no word of the state is trusted.
+// A run in place: the state's words go into a formatter and a ring, and back where nothing was refused. Refused, it zeroes the buffer from
+// the state's length on, unless the shape is wrong: then no word of the state is trusted.
 fn laid(source: &[u8], tree: &[u8], state: &mut [u8], out: &mut [u8], w: Wanted) -> u64
     ensures { LaidAs source tree state out w result }
 {
@@ -92,11 +89,11 @@ fn laid(source: &[u8], tree: &[u8], state: &mut [u8], out: &mut [u8], w: Wanted)
         let mut fmt = started(now, opening(source, tree));
         let mut queue = queue_in(state);
         run_in(source, tree, &mut fmt, &mut queue, out, w);
-        if stopped(&fmt) {
+        if fmt.stopped() {
             zero_from(out, now.len);
-            return packed(answer(&fmt), indent);
+            return packed(fmt.answer, indent);
         }
-        let waiting = tidy(&queue, head(&fmt), count(&fmt));
+        let waiting = tidy(&queue, fmt.head, fmt.count);
         write_state(state, now_of(&fmt), &waiting);
         return 0;
     }

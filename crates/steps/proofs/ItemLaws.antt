@@ -6,14 +6,16 @@ use Rattle.meaning.specs.{declared.call.Call.TheVariants.Ws, State.Script, Plan.
 use Rattle.lent.specs.Loans.{Engine, Makes}
 use Rattle.lent.proofs.MadeLaws as made
 use Rattle.steps.specs.declared.remaining.Mark.TheVariants.{Comma}
-use Rattle.steps.specs.declared.remaining.Remaining as code
+use Rattle.steps.specs.declared.remaining.Remaining.TheVariants as held
 use Rattle.walk.specs.Stream.{Stream, next_is}
 use Rattle.walk.specs.Flow.{Flow, ◌▸◌, pump, Goes}
 use Rattle.steps.specs.Remaining.{Remaining, Fresh, fmt, ignore, says, remaining, remaining_of, RestsWith}
-use Rattle.steps.specs.Items.{Few, Zero, Place, place, more, item, rested, behind, turn, begin, items, separated, listed, suffix, closing}
+use Rattle.steps.specs.declared.items.Few.{Few}
+use Rattle.steps.specs.declared.items.Few.TheVariants.{Zero}
+use Rattle.steps.specs.Items.{Place, place, more, item, rested, behind, turn, begin, items, separated, listed, suffix, closing}
 use Rattle.steps.specs.Items.{closed, list}
 use Rattle.walk.proofs.{FlowLaws.◌▹◌, FlowLaws.steady, LoopLaws.Falls, LoopLaws.Going, LoopLaws.starts, LoopLaws.goes_on, LoopLaws.done}
-use Rattle.steps.proofs.{TakeLaws.Takes, TakeLaws.pump_takes, TakeLaws.plain_takes, TakeLaws.rest_leaves, RestLaws.fresh_one}
+use Rattle.steps.proofs.{TakeLaws.Takes, TakeLaws.pump_takes, TakeLaws.plain_takes, TakeLaws.rest_leaves}
 use Rattle.walk.proofs.{LoopLaws.falls}
 
 -- ---- the comma of the item before, and of the last
@@ -73,11 +75,12 @@ pub record Listing (x : Script) (want : ℕ → Bool) (turn : Place → Flow Pla
   pub count : Few
   pub going : Counting x want turn s₀ e₀ s e comma count
 
-pub none_counted : {x : Script} {want : ℕ → Bool} {turn : Place → Flow Place} {s : Stream} {e : Engine} (r : code.Remaining) → r ≡ record { 0 = 8193 } → Counting x want turn s e s e (remaining_of Comma r) Zero
-none_counted r h = rw (fresh_one Comma h) starts
+pub none_counted : {x : Script} {want : ℕ → Bool} {turn : Place → Flow Place} {s : Stream} {e : Engine} → Counting x want turn s e s e (remaining_of Comma held.Fresh) Zero
+unfolding remaining_of
+none_counted = starts
 
-pub no_item_lem : {x : Script} {want : ℕ → Bool} {turn : Place → Flow Place} {s : Stream} {e : Engine} (r : code.Remaining) → r ≡ record { 0 = 8193 } → Listing x want turn s e s e (remaining_of Comma r)
-no_item_lem r h = record { count = Zero; going = none_counted r h }
+pub no_item_lem : {x : Script} {want : ℕ → Bool} {turn : Place → Flow Place} {s : Stream} {e : Engine} → Listing x want turn s e s e (remaining_of Comma held.Fresh)
+no_item_lem = record { count = Zero; going = none_counted }
 
 module _ {x : Script} (rs : List Record) (want : ℕ → Bool) (f : Remaining → Stream → Flow Stream) (g : Remaining → Plan) (fall : Falls (λ (s : Place). s.rest) want (turn rs f g)) {s s' s'' : Stream} {e e' e'' : Engine} {c r : Remaining} {t : Bool}
     (q : t ≡ next_is want s) (h : t ≡ true) (a : Goes x (f c) s e e' s') (b : RestsWith x rs Comma g s' e' e'' r s'') where

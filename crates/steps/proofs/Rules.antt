@@ -19,7 +19,7 @@ pub use Rattle.walk.specs.Flow.{Flow, flow, call, write, spaced, ignored, expect
 unfoldable pub use Rattle.walk.specs.Flow.{◌▸◌, plain, pump, expect_byte, if_next, either, parse}
 unfoldable pub use Rattle.steps.specs.Remaining.{fmt, ignore, says, put_remaining, remaining_of}
 pub use Rattle.steps.specs.Remaining.{Remaining}
-pub use Rattle.steps.specs.Items.{Few, Zero, One, Many, few_of, more, Place, place, suffix}
+pub use Rattle.steps.specs.Items.{more, Place, place, suffix}
 unfoldable pub use Rattle.steps.specs.Items.{turn, listed, list}
 pub use Rattle.walk.proofs.StreamLaws.{next_at, next_none}
 pub use Rattle.walk.proofs.FlowLaws.{◌▹◌, steady, kept_length, got, pumped, expected, eaten, eaten_not, parsed}

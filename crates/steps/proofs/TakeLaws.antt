@@ -1,7 +1,7 @@
 -- What steps leave of the records: no more than there were, and less where a turn takes the record that is wanted. Assumes nothing.
+use Rattle.std.specs.Prelude.{Option, Some, None}
 use Rattle.text.proofs.Base.{◌≡◌, refl, Bool, true, false, cond, List, [], ◌∷◌, ℕ, suc, ◌<◌, ◌≤◌, arith, length}
-use Rattle.tree.specs.{declared.record.Record.Record, declared.record.RecordNo.RecordNo, declared.cursor.Found.Found}
-use Rattle.tree.specs.{declared.cursor.Found.TheVariants.At, declared.cursor.Found.TheVariants.None}
+use Rattle.tree.specs.{declared.record.Record.Record, declared.record.RecordNo.RecordNo}
 use Rattle.meaning.specs.Plan.{Plan}
 use Rattle.steps.specs.{declared.remaining.Mark.Mark}
 use Rattle.walk.specs.{Stream.Stream, Stream.is_byte, Stream.next_in, Stream.next_is, Stream.take_in, Stream.take_if}
@@ -56,8 +56,8 @@ pub rest_leaves : (rs : List Record) (m : Mark) (s : Stream) → length (remaini
 unfolding remaining rest_if take_if
 rest_leaves rs m s = omega (arith, kept (take_if (is_mark rs m) s).found (take_if (is_mark rs m) s).rest, take_le (is_mark rs m) s.node s.left)
   where
-    kept : (f : Found) (s : Stream) → length (rest_if rs m f s).rest.left ≡ length s.left
-    kept (At k) s = refl
+    kept : (f : Option RecordNo) (s : Stream) → length (rest_if rs m f s).rest.left ≡ length s.left
+    kept (Some k) s = refl
     kept None s = refl
 
 pub put_leaves : (rs : List Record) (m : Mark) → Leaves (put_remaining rs m)

@@ -1,27 +1,17 @@
 -- Lists: items, each with the comma behind it. Assumes nothing.
-use Rattle.std.specs.Prelude.{ℕ, zero, suc, Bool, cond, List}
+use Rattle.std.specs.Prelude.{ℕ, Bool, cond, List}
 use Rattle.tree.specs.declared.record.Record.{Record}
 use Rattle.tree.specs.declared.record.RecordNo.{RecordNo}
 use Rattle.meaning.specs.declared.call.Hint.TheVariants.{Prefix, Suffix, Infix}
 use Rattle.meaning.specs.declared.call.Call.TheVariants.{Comments, Ws}
 use Rattle.meaning.specs.Plan.{Plan, nothing, make, ◌then◌}
 use Rattle.steps.specs.declared.remaining.Mark.TheVariants.{Comma}
+use Rattle.steps.specs.declared.items.Few.{Few}
+use Rattle.steps.specs.declared.items.Few.TheVariants.{Zero, One, Many}
 use Rattle.walk.specs.Stream.{Stream}
 use Rattle.walk.specs.Flow.{Flow, flow, ◌▸◌, plain, pump}
 use Rattle.steps.specs.Remaining.{Remaining, Fresh, fmt, ignore, says, remaining}
 use Rattle.walk.specs.Loop.{loop}
-
--- none, one, or more: the Rust counts on, and asks no more than this
-pub data Few : Type 0 where
-  Zero : Few
-  One : Few
-  Many : Few
-
--- in the code, a number
-abbrev pub few_of : ℕ → Few
-few_of zero = Zero
-few_of (suc zero) = One
-few_of (suc (suc n)) = Many
 
 -- where a list stands: the records left, the comma behind the last item, how many items there were
 pub record Place : Type 0 where

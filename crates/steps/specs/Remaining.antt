@@ -1,22 +1,21 @@
 -- A token that may be missing: `remaining` takes none or one, and it is written, or its literal is, or it is passed over. Assumes nothing.
-use Rattle.std.specs.Prelude.{◌≡◌, ℕ, Bool, true, false, cond, ◌||◌, List, eqb, ltb}
+use Rattle.std.specs.Prelude.{◌≡◌, ℕ, Bool, true, false, cond, ◌||◌, List, Option, Some, None}
 use Rattle.tree.specs.declared.record.Record.{Record}
 use Rattle.tree.specs.declared.record.RecordNo.{RecordNo}
-use Rattle.tree.specs.declared.cursor.Found.{Found}
-use Rattle.tree.specs.declared.cursor.Found.TheVariants.{At, None}
 use Rattle.kinds.specs.declared.Kind.{Kind}
-use Rattle.kinds.specs.Facts.{byte_of}
 use Rattle.meaning.specs.declared.call.Call.TheVariants.{Lit}
 use Rattle.meaning.specs.declared.call.Literal.{Literal}
 use Rattle.meaning.specs.declared.call.Literal.TheVariants as literal
 use Rattle.meaning.specs.State.{Script}
 use Rattle.meaning.specs.Plan.{Plan, nothing, make, ◌then◌}
-use Rattle.lent.specs.Loans.{Loan, MutLoan, script, Engine, before, after, Makes, Made, Refuses}
+use Rattle.lent.specs.declared.formatter.Formatter.{Formatter}
+use Rattle.lent.specs.Loans.{Loan, MutLoan, FormatterLoan, script, Engine, before, after, Makes, Made, Refuses}
 use Rattle.steps.specs.declared.remaining.Mark.{Mark}
 use Rattle.steps.specs.declared.remaining.Mark.TheVariants.{Comma, SemiColon, Colon, CloseBrace}
 use Rattle.steps.specs.declared.remaining.Remaining as code
-use Rattle.walk.specs.Stream.{Stream, no, is_byte, next_is, take_if, tree, stream_in, stream_out}
-use Rattle.walk.specs.Flow.{Flow, flow, write, ignored, not_met}
+use Rattle.steps.specs.declared.remaining.Remaining.TheVariants as held
+use Rattle.walk.specs.Stream.{Stream, next_is, take_if, tree, StreamMutLoan, stream_in, stream_out}
+use Rattle.walk.specs.Flow.{Flow, flow, write, ignored, is, not_met}
 
 -- a fresh one stands before the first item of a list
 pub data Remaining : Type 0 where
@@ -39,7 +38,7 @@ literal_of Colon = literal.Colon
 literal_of CloseBrace = literal.CloseBrace
 
 abbrev pub is_mark : List Record → Mark → ℕ → Bool
-is_mark rs m k = is_byte rs (byte_of (token_of m)) k
+is_mark rs m k = is rs (token_of m) k
 
 -- ---- what is done with one
 
@@ -85,8 +84,8 @@ pub record Rest : Type 0 where
 unfoldable pub second : List Record → Mark → Stream → Plan
 second rs m s = cond (next_is (is_mark rs m) s) (not_met s) nothing
 
-unfoldable pub rest_if : List Record → Mark → Found → Stream → Rest
-rest_if rs m (At k) s = record { plan = second rs m s; token = Present k; rest = s }
+unfoldable pub rest_if : List Record → Mark → Option RecordNo → Stream → Rest
+rest_if rs m (Some k) s = record { plan = second rs m s; token = Present k; rest = s }
 rest_if rs m None s = record { plan = nothing; token = Missing m; rest = s }
 
 unfoldable pub remaining : List Record → Mark → Stream → Rest
@@ -96,18 +95,20 @@ remaining rs m s = let t = take_if (is_mark rs m) s in rest_if rs m t.found t.re
 unfoldable pub put_remaining : List Record → Mark → Stream → Flow Stream
 put_remaining rs m s = let z = remaining rs m s in flow (z.plan then fmt z.token) z.rest
 
--- ---- in the code: the token's record, 8,192 where it is missing, 8,193 for a fresh one
+-- ---- in the code: the mark is the one that the function is given
 
 unfoldable pub remaining_of : Mark → code.Remaining → Remaining
-remaining_of m r = cond (ltb r.0 8192) (Present (no r.0)) (cond (eqb r.0 8192) (Missing m) Fresh)
+remaining_of m held.Fresh = Fresh
+remaining_of m held.Missing = Missing m
+remaining_of m (held.There k) = Present k
 
 -- it was taken so
-pub record Rests (rs : List Record) (m : Mark) (s : Stream) (w w' : List ℕ) (r : Remaining) (s' : Stream) : Type 0 where
+pub record Rests (rs : List Record) (m : Mark) (s : Stream) (w w' : Formatter) (r : Remaining) (s' : Stream) : Type 0 where
   pub ran : Refuses (remaining rs m s).plan w w'
   pub token : r ≡ (remaining rs m s).token
   pub rest : s' ≡ (remaining rs m s).rest
 
-abbrev pub Rested : Loan → MutLoan → MutLoan → Mark → code.Remaining → Type 0
+abbrev pub Rested : Loan → FormatterLoan → StreamMutLoan → Mark → code.Remaining → Type 0
 Rested table fmt p m r = Rests (tree table) m (stream_in table p) fmt.entry.now fmt.exit.now (remaining_of m r) (stream_out table p)
 
 -- and something was done behind it
@@ -116,7 +117,7 @@ pub record RestsWith (x : Script) (rs : List Record) (m : Mark) (g : Remaining �
   pub token : r ≡ (remaining rs m s).token
   pub rest : s' ≡ (remaining rs m s).rest
 
-abbrev pub RestedWith : Loan → Loan → MutLoan → MutLoan → MutLoan → MutLoan → Mark → (Remaining → Plan) → code.Remaining → Type 0
+abbrev pub RestedWith : Loan → Loan → FormatterLoan → MutLoan → MutLoan → StreamMutLoan → Mark → (Remaining → Plan) → code.Remaining → Type 0
 RestedWith src table fmt queue out p m g r =
     RestsWith (script src table) (tree table) m g (stream_in table p) (before fmt queue out) (after fmt queue out) (remaining_of m r) (stream_out table p)
 
@@ -124,5 +125,5 @@ RestedWith src table fmt queue out p m g r =
 abbrev pub Tells : (Remaining → Bool) → code.Remaining → Bool → Type 0
 Tells f r t = (m : Mark) → t ≡ f (remaining_of m r)
 
-abbrev pub MadeOf : Loan → Loan → MutLoan → MutLoan → MutLoan → (Remaining → Plan) → code.Remaining → Type 0
+abbrev pub MadeOf : Loan → Loan → FormatterLoan → MutLoan → MutLoan → (Remaining → Plan) → code.Remaining → Type 0
 MadeOf src table fmt queue out g r = (m : Mark) → Made src table fmt queue out (g (remaining_of m r))

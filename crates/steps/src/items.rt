@@ -1,17 +1,37 @@
 // The lists of the rules: what is done before an item, behind it, and behind the last.
+ghost use Rattle.std.specs.Prelude.{◌≡◌};
 ghost use Rattle.meaning.specs.declared.call.Hint.TheVariants.{Prefix};
 ghost use Rattle.meaning.specs.declared.call.Call.TheVariants.{Comments};
 ghost use Rattle.meaning.specs.Plan.{make, ◌then◌};
 ghost use Rattle.lent.specs.Loans.{Made};
 ghost use Rattle.steps.specs.Remaining.{remaining_of, RestedWith};
-ghost use Rattle.steps.specs.Items.{separated, suffix, closing};
+ghost use Rattle.steps.specs.Items.{more, separated, suffix, closing};
 
-use crate::remaining::{Mark, Remaining, pass, put, says, take_remaining};
+use crate::remaining::{Mark, Remaining, pass, put, take_remaining};
 use calls::{comments, ws};
 use lent::formatter::Formatter;
 use lent::ring::Queue;
 use meaning::call::Hint;
 use walk::stream::Stream;
+
+// How many items there were: the Rust counts on, and asks no more than this.
+#[derive(Clone, Copy)]
+pub enum Few {
+    Zero,
+    One,
+    Many,
+}
+
+impl Few {
+    pub fn more(self) -> Few
+        ensures { result ≡ more self }
+    {
+        match self {
+            Few::Zero => Few::One,
+            Few::One | Few::Many => Few::Many,
+        }
+    }
+}
 
 // Comments, and the comma of the item before.
 pub fn before_item(
@@ -26,7 +46,7 @@ pub fn before_item(
 {
     comments(src, table, fmt, queue, out, Hint::Prefix);
     put(src, table, fmt, queue, out, comma, Mark::Comma);
-    if says(comma) {
+    if comma.says() {
         ws(src, table, fmt, queue, out);
     }
 }
@@ -59,8 +79,7 @@ pub fn close_list(
     ensures { Made src table fmt queue out (closing (remaining_of Mark.Comma comma)) }
 {
     pass(src, table, fmt, queue, out, comma);
-    if says(comma) {
-        return;
+    if !comma.says() {
+        comments(src, table, fmt, queue, out, Hint::Infix);
     }
-    comments(src, table, fmt, queue, out, Hint::Infix);
 }

@@ -1,6 +1,5 @@
 // A token that may be missing, as `remaining` of the Rust gives it.
 ghost use Rattle.std.specs.Prelude.{◌≡◌};
-ghost use Rattle.kinds.specs.Facts.{byte_of};
 ghost use Rattle.lent.specs.Loans.{Made, Refused};
 ghost use Rattle.walk.specs.Stream.{tree, stream_here};
 ghost use Rattle.walk.specs.Flow.{Walked};
@@ -8,12 +7,12 @@ ghost use Rattle.steps.specs.Remaining.{token_of, literal_of, second, fmt as wri
 ghost use Rattle.steps.specs.Remaining.{remaining_of, put_remaining, Rested, Tells, MadeOf};
 
 use calls::{ignore, lit, write_owned};
-use kinds::bytes;
+use kinds::Kind;
 use lent::formatter::Formatter;
 use lent::ring::Queue;
 use meaning::call::Literal;
 use tree::record::RecordNo;
-use walk::stream::{Stream, eat, is_some, next_is, not_met};
+use walk::stream::Stream;
 
 // The tokens that format.rs lets be missing.
 #[derive(Clone, Copy)]
@@ -24,38 +23,61 @@ pub enum Mark {
     CloseBrace,
 }
 
-// The token's record, 8,192 where it is missing, 8,193 before the first item of a list.
-#[derive(Clone, Copy)]
-pub struct Remaining(pub u32);
+impl Mark {
+    // The token that is looked for.
+    fn token(self) -> Kind
+        ensures { result ≡ token_of self }
+    {
+        match self {
+            Mark::Comma => Kind::Comma,
+            Mark::SemiColon => Kind::SemiColon,
+            Mark::Colon => Kind::Colon,
+            Mark::CloseBrace => Kind::CloseBrace,
+        }
+    }
 
-// The one before any was looked for: the Rust's `Remaining::default`.
-pub fn fresh() -> Remaining
-    ensures { result ≡ record { 0 = 8193 } }
-{
-    Remaining(8193)
-}
-
-// The byte of the token that is looked for.
-fn byte_of(mark: Mark) -> u8
-    ensures { result ≡ byte_of (token_of mark) }
-{
-    match mark {
-        Mark::Comma => bytes::COMMA,
-        Mark::SemiColon => bytes::SEMI,
-        Mark::Colon => bytes::COLON,
-        Mark::CloseBrace => bytes::BRACE_CLOSE,
+    // What is written where it is missing.
+    fn literal(self) -> Literal
+        ensures { result ≡ literal_of self }
+    {
+        match self {
+            Mark::Comma => Literal::Comma,
+            Mark::SemiColon => Literal::Semicolon,
+            Mark::Colon => Literal::Colon,
+            Mark::CloseBrace => Literal::CloseBrace,
+        }
     }
 }
 
-// What is written where it is missing.
-fn literal_of(mark: Mark) -> Literal
-    ensures { result ≡ literal_of mark }
-{
-    match mark {
-        Mark::Comma => Literal::Comma,
-        Mark::SemiColon => Literal::Semicolon,
-        Mark::Colon => Literal::Colon,
-        Mark::CloseBrace => Literal::CloseBrace,
+#[derive(Clone, Copy)]
+pub enum Remaining {
+    // Before the first item of a list, when none was looked for: the Rust's `Remaining::default`.
+    Fresh,
+    Missing,
+    There(RecordNo),
+}
+
+impl Remaining {
+    // What `put` and `pass` say: no for a fresh one.
+    #[tactic(auto, unfolding(crate::specs::Remaining::says, crate::specs::Remaining::remaining_of))]
+    pub fn says(self) -> bool
+        ensures { Tells says self result }
+    {
+        match self {
+            Remaining::Fresh => false,
+            Remaining::Missing | Remaining::There(_) => true,
+        }
+    }
+
+    // The token is there.
+    #[tactic(auto, unfolding(crate::specs::Remaining::is_present, crate::specs::Remaining::remaining_of))]
+    pub fn is_present(self) -> bool
+        ensures { Tells is_present self result }
+    {
+        match self {
+            Remaining::There(_) => true,
+            Remaining::Fresh | Remaining::Missing => false,
+        }
     }
 }
 
@@ -63,8 +85,8 @@ fn literal_of(mark: Mark) -> Literal
 fn once(table: &[u32], fmt: &mut Formatter, p: &Stream, mark: Mark)
     ensures { Refused fmt (second (tree table) mark (stream_here table p)) }
 {
-    if next_is(table, p, byte_of(mark)) {
-        not_met(table, fmt, p);
+    if p.next_is(table, mark.token()) {
+        p.not_met(table, fmt);
     }
 }
 
@@ -72,22 +94,13 @@ fn once(table: &[u32], fmt: &mut Formatter, p: &Stream, mark: Mark)
 pub fn take_remaining(table: &[u32], fmt: &mut Formatter, p: &mut Stream, mark: Mark) -> Remaining
     ensures { Rested table fmt p mark result }
 {
-    let k = eat(table, p, byte_of(mark));
-    if is_some(k) {
-        once(table, fmt, p, mark);
-        return Remaining(k.0);
+    match p.eat(table, mark.token()) {
+        Some(k) => {
+            once(table, fmt, p, mark);
+            Remaining::There(k)
+        }
+        None => Remaining::Missing,
     }
-    Remaining(8192)
-}
-
-// What `put` and `pass` say: no for a fresh one.
-pub fn says(r: Remaining) -> bool
-    ensures { Tells says r result }
-{
-    if r.0 < 8192 {
-        return true;
-    }
-    r.0 == 8192
 }
 
 // The token, or the literal if it is missing.
@@ -102,12 +115,10 @@ pub fn put(
 )
     ensures { Made src table fmt queue out (written (remaining_of mark r)) }
 {
-    if r.0 < 8192 {
-        write_owned(src, table, fmt, queue, out, RecordNo(r.0));
-        return;
-    }
-    if r.0 == 8192 {
-        lit(src, table, fmt, queue, out, literal_of(mark));
+    match r {
+        Remaining::Fresh => {}
+        Remaining::Missing => lit(src, table, fmt, queue, out, mark.literal()),
+        Remaining::There(k) => write_owned(src, table, fmt, queue, out, k),
     }
 }
 
@@ -122,16 +133,9 @@ pub fn pass(
 )
     ensures { MadeOf src table fmt queue out ignore r }
 {
-    if r.0 < 8192 {
-        ignore(src, table, fmt, queue, out, RecordNo(r.0));
+    if let Remaining::There(k) = r {
+        ignore(src, table, fmt, queue, out, k);
     }
-}
-
-// The token is there.
-pub fn is_present(r: Remaining) -> bool
-    ensures { Tells is_present r result }
-{
-    r.0 < 8192
 }
 
 // Written if it is needed or there.
@@ -147,11 +151,7 @@ pub fn write_if(
 )
     ensures { Made src table fmt queue out (write_if needed (remaining_of mark r)) }
 {
-    if needed {
-        put(src, table, fmt, queue, out, r, mark);
-        return;
-    }
-    if is_present(r) {
+    if needed || r.is_present() {
         put(src, table, fmt, queue, out, r, mark);
     }
 }
@@ -171,9 +171,9 @@ pub fn write_only_if(
 {
     if wanted {
         put(src, table, fmt, queue, out, r, mark);
-        return;
+    } else {
+        pass(src, table, fmt, queue, out, r);
     }
-    pass(src, table, fmt, queue, out, r);
 }
 
 // `p.remaining(fmt, K)?.fmt(fmt)?`.

@@ -5,34 +5,25 @@ use text::span::BytePos;
 use tree::record::RecordNo;
 use tree::table::{decode, first, node};
 
-// One more, as far as any file goes.
-pub fn more(n: u64) -> u64 {
-    if n < 0xFFFF_FFFF { n + 1 } else { n }
-}
-
 // The column behind a byte: a newline begins a line, a byte that goes on with a character takes no column.
 fn behind(n: u64, b: u8) -> u64 {
-    if b == 10 {
-        return 1;
+    match b {
+        b'\n' => 1,
+        0x80..=0xBF => n,
+        _ => n.saturating_add(1),
     }
-    if 0x80 <= b && b < 0xC0 {
-        return n;
-    }
-    more(n)
 }
 
 // The line of the byte at a place.
 pub fn line(source: &[u8], at: usize) -> u64 {
-    more(count_newlines(packed::front(source, at)) as u64)
+    (count_newlines(packed::front(source, at)) as u64).saturating_add(1)
 }
 
 // Its column, in characters.
 pub fn column(source: &[u8], at: usize) -> u64 {
-    let mut c: u64 = 1;
-    for i in 0..at {
-        c = behind(c, packed::byte(source, i));
-    }
-    c
+    packed::front(source, at)
+        .iter()
+        .fold(1, |n, b| behind(n, *b))
 }
 
 // Line and column of a place in the source, and nothing of one behind its end.
@@ -65,9 +56,4 @@ pub fn at_record(out: &impl Print, source: &[u8], tree: &[u8], k: RecordNo) -> i
         line_and_column(out, source, start.0 as usize)?;
     }
     println!(out;)
-}
-
-// A place that is neither: a count of something.
-pub fn at_count(out: &impl Print, what: &str, n: usize) -> io::Result<()> {
-    println!(out; "{what}{n}")
 }

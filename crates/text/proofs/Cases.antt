@@ -1,10 +1,11 @@
 -- Worked cases of the definitions, computed by antt. Assumes nothing.
 use mathlib.Core.Path.{◌≡◌, refl}
 use mathlib.Core.List.{[], ◌∷◌, map}
-use Rattle.text.specs.declared.source.Checked.TheVariants.{Good, Ill}
+use Rattle.std.specs.Prelude.{Err}
+use Rattle.text.specs.declared.source.Unfit.TheVariants.{Ill}
 use Rattle.white.specs.White.{mem, whites, is_white}
 use Rattle.encoding.specs.Utf8.{table, all_in, len_by, char_len, formed_from}
-use Rattle.text.specs.Source.{checked}
+use Rattle.text.specs.Source.{Good, checked}
 use Rattle.text.specs.Chars.{code}
 use Rattle.text.specs.Trim.{trim_from, trim}
 use Rattle.text.specs.Delete.{delete_from, delete}
@@ -16,7 +17,7 @@ places : map checked (
     ∷ (0x41 ∷ 0xE2 ∷ 0x82 ∷ [])
     ∷ (0xF0 ∷ 0x9F ∷ 0x98 ∷ 0x80 ∷ [])
     ∷ (0xF4 ∷ 0x90 ∷ 0x80 ∷ 0x80 ∷ [])
-    ∷ []) ≡ Ill (record { 0 = 1 }) ∷ Ill (record { 0 = 3 }) ∷ Ill (record { 0 = 1 }) ∷ Good ∷ Ill (record { 0 = 0 }) ∷ []
+    ∷ []) ≡ Err (Ill (record { 0 = 1 })) ∷ Err (Ill (record { 0 = 3 })) ∷ Err (Ill (record { 0 = 1 })) ∷ Good ∷ Err (Ill (record { 0 = 0 })) ∷ []
 unfolding table all_in len_by char_len formed_from checked
 places = refl
 

@@ -10,9 +10,7 @@ use lib.ListN.{length, drop, get_or, drop_of_length-le, get_or-append}
 use lib.Seq.{drop-cons, drop-drop, get_or-drop}
 use borrow.Author.Tests.{le-leb, lt-leb, leb-true, ltb-true, ltb-false, lt-ltb}
 use Rattle.text.specs.declared.chars.Char.{Char}
-use Rattle.encoding.specs.declared.utf8.Formed.{Formed}
-use Rattle.encoding.specs.declared.utf8.Formed.TheVariants.{Well}
-use Rattle.encoding.specs.Utf8.{Range, Row, cont, in_range, table, all_in, len_by, char_len, at_lead, formed_from}
+use Rattle.encoding.specs.Utf8.{Formed, Well, Range, Row, cont, in_range, table, all_in, len_by, char_len, at_lead, formed_from}
 use Rattle.text.specs.Chars.{edge_from, edge, starts, code, chars_from, step_of, char_at}
 use Rattle.white.proofs.Bools.{and_l, and_r}
 use Rattle.encoding.proofs.RowLaws.{char_fits}

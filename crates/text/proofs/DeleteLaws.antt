@@ -2,13 +2,12 @@
 use mathlib.Core.Path.{◌≡◌, refl, sym, ap, ◌∙◌}
 use mathlib.Core.Bool.{Bool, true, false, not}
 use mathlib.Core.List.{List, [], ◌∷◌, ◌++◌, append-nil}
-use Prim.Native.Nat.{ℕ, zero, suc, pred, ◌+◌, ◌≤◌, ◌<◌, zero-le}
+use Prim.Native.Nat.{ℕ, zero, suc, pred, ◌≤◌, ◌<◌, zero-le}
 use native.Mathlib.Nat.{le_of_suc-le-suc, not-suc-le-zero}
 use native.Mathlib.Omega.{arith}
 use lib.ListN.{length, replicate}
-use Rattle.encoding.specs.declared.utf8.Formed.TheVariants.{Well}
+use Rattle.encoding.specs.Utf8.{Well, char_len, formed_from, formed}
 use Rattle.white.specs.White.{mem, whites, is_white}
-use Rattle.encoding.specs.Utf8.{char_len, formed_from, formed}
 use Rattle.text.specs.Chars.{code}
 use Rattle.text.specs.Delete.{onto, dark_at, delete_from, delete, Blank, is_space, is_newline, Blanks, no_blank, a_blank}
 use Rattle.encoding.proofs.RowLaws.{char_le, char_append}

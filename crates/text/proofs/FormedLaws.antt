@@ -2,12 +2,10 @@
 use mathlib.Core.Path.{◌≡◌, refl, sym, ap, ◌∙◌}
 use mathlib.Core.Bool.{true, false, false≢true}
 use mathlib.Core.List.{List, [], ◌∷◌, ◌++◌}
-use Prim.Native.Nat.{ℕ, zero, suc, pred, ◌+◌, ◌-◌, ◌≤◌, zero-le, suc-le-suc}
+use Prim.Native.Nat.{ℕ, zero, suc, pred, ◌-◌, ◌≤◌, zero-le, suc-le-suc}
 use native.Mathlib.Nat.{le_of_suc-le-suc, not-suc-le-zero, sub-zero, suc-sub-suc}
 use lib.ListN.{length, take, drop}
-use Rattle.encoding.specs.declared.utf8.Formed.{Formed}
-use Rattle.encoding.specs.declared.utf8.Formed.TheVariants.{Well}
-use Rattle.encoding.specs.Utf8.{cont, in_range, char_len, at_lead, formed_from, formed}
+use Rattle.encoding.specs.Utf8.{Formed, Well, cont, in_range, char_len, at_lead, formed_from, formed}
 use Rattle.text.specs.Span.{between}
 use Rattle.text.specs.Chars.{edge_from, starts}
 use Rattle.encoding.proofs.RowLaws.{char_le, char_append, char_take}

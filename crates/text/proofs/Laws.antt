@@ -3,19 +3,18 @@ use mathlib.Core.Path.{◌≡◌, refl, ap, ◌∙◌}
 use mathlib.Core.Logic.{⊎_elim}
 use mathlib.Core.Bool.{Bool, true, false, cond}
 use mathlib.Core.List.{List, [], ◌++◌}
-use Prim.Native.Nat.{ℕ, ◌+◌, ◌-◌, ◌≤◌}
+use Prim.Native.Nat.{ℕ, ◌-◌, ◌≤◌}
 use native.Mathlib.Nat.{le_of_lt, min-eq_left, min-eq_right, min-le_left, max-eq_left, max-eq_right, max-le, le-max_left}
 use native.Mathlib.Omega.{arith}
 use lib.Dec.{leb, ltb}
 use lib.ListN.{length, replicate, length-take, length-drop}
 use borrow.Author.Tests.{leb-true, le-leb, ltb-false}
 use Rattle.text.specs.declared.span.Span.{Span}
-use Rattle.encoding.specs.declared.utf8.Formed.{Formed}
-use Rattle.encoding.specs.declared.utf8.Formed.TheVariants.{Well, Ill}
-use Rattle.text.specs.declared.source.Checked.TheVariants as source
+use Rattle.std.specs.Prelude.{Ok, Err}
+use Rattle.text.specs.declared.source.Unfit.TheVariants.{Long}
 use Rattle.text.specs.Span.{text_of, joined}
-use Rattle.encoding.specs.Utf8.{formed}
-use Rattle.text.specs.Source.{of_formed, checked}
+use Rattle.encoding.specs.Utf8.{Formed, Well, formed}
+use Rattle.text.specs.Source.{Good, of_formed, checked}
 use Rattle.text.specs.Chars.{edge, starts, in_source}
 use Rattle.text.specs.Lines.{newlines}
 use Rattle.text.specs.Trim.{trim}
@@ -33,14 +32,14 @@ pub record GoodSource (s : List ℕ) : Type 0 where
   pub short : length s ≤ 65536
   pub well : formed s ≡ Well
 
-pub good_source : (s : List ℕ) → checked s ≡ source.Good → GoodSource s
+pub good_source : (s : List ℕ) → checked s ≡ Good → GoodSource s
 unfolding checked
 good_source s e = go (ltb 65536 (length s)) (formed s) refl refl e
   where
-    go : (t : Bool) (f : Formed) → ltb 65536 (length s) ≡ t → formed s ≡ f → cond t source.Long (of_formed f) ≡ source.Good → GoodSource s
+    go : (t : Bool) (f : Formed) → ltb 65536 (length s) ≡ t → formed s ≡ f → cond t (Err Long) (of_formed f) ≡ Good → GoodSource s
     go true f l w e = let z : ◌≡◌ {A = ℕ} 0 1 = cc in absurd (omega arith)
-    go false Well l w e = record { short = ltb-false 65536 (length s) l; well = w }
-    go false (Ill p) l w e = let z : ◌≡◌ {A = ℕ} 0 1 = cc in absurd (omega arith)
+    go false (Ok u) l w e = record { short = ltb-false 65536 (length s) l; well = w }
+    go false (Err i) l w e = let z : ◌≡◌ {A = ℕ} 0 1 = cc in absurd (omega arith)
 
 -- ---- boundaries
 

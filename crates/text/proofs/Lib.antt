@@ -1,5 +1,4 @@
 pub mod Base
-mod SpanLaws
 pub mod CharLaws
 mod LineLaws
 mod FormedLaws

@@ -18,7 +18,7 @@ edge_from zero (suc p) (b ∷ bs) = edge_from (pred (char_len (b ∷ bs))) p bs
 abbrev pub edge : ℕ → List ℕ → Bool
 edge p s = edge_from 0 p s
 
--- the same by the byte at p alone: the end, or a byte that goes on no sequence (Laws: starts-edge, they agree in a well-formed text)
+-- the same by the byte at p alone: the end, or a byte that goes on no sequence (Laws: starts_edge, they agree in a well-formed text)
 unfoldable pub starts : ℕ → List ℕ → Bool
 starts zero [] = true
 starts (suc p) [] = false

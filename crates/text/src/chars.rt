@@ -13,34 +13,26 @@ pub struct Char {
 }
 
 // The place lies before a character or at the end.
+#[tactic(auto, using(crate::proofs::CharLaws::starts_in, crate::proofs::CharLaws::starts_out))]
 pub fn on_boundary(s: &[u8], p: BytePos) -> bool
     ensures { result ≡ starts p.0 s.now }
 {
     let at = p.0 as usize;
-    if s.len() <= at {
-        return at == s.len();
+    match s.get(at) {
+        Some(&b) => !matches!(b, 0x80..=0xBF),
+        None => at == s.len(),
     }
-    let b = s[at];
-    if b < 0x80 {
-        return true;
-    }
-    0xC0 <= b
 }
 
 // start ≤ end ≤ length, both on character boundaries.
+#[tactic(auto, unfolding(crate::specs::Chars::in_source))]
 pub fn in_source(s: &[u8], span: Span) -> bool
     ensures { result ≡ in_source s.now span }
 {
-    let start = span.start.0 as usize;
-    let end = span.end.0 as usize;
-    if start <= end {
-        if end <= s.len() {
-            if on_boundary(s, span.start) {
-                return on_boundary(s, span.end);
-            }
-        }
-    }
-    false
+    span.start <= span.end
+        && span.end.0 as usize <= s.len()
+        && on_boundary(s, span.start)
+        && on_boundary(s, span.end)
 }
 
 // The code point of the n bytes at i.

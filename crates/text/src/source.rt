@@ -3,24 +3,23 @@ ghost use Rattle.std.specs.Prelude.{◌≡◌};
 ghost use Rattle.text.specs.Source.{checked};
 
 use crate::span::BytePos;
-use encoding::utf8::Formed;
 
+// Why a source is refused: over 65,536 bytes, or ill-formed from a place on.
 #[derive(Clone, Copy)]
-pub enum Checked {
-    Good,
+pub enum Unfit {
     Long,
     Ill(BytePos),
 }
 
-pub fn check(s: &[u8]) -> Checked
+pub fn check(s: &[u8]) -> Result<(), Unfit>
     ensures { result ≡ checked s.now }
 {
     if 65536 < s.len() {
-        return Checked::Long;
+        return Err(Unfit::Long);
     }
-    let f = encoding::utf8::check(s);
-    match f {
-        Formed::Well => Checked::Good,
-        Formed::Ill(at) => Checked::Ill(BytePos(at as u32)),
+    // A `match` and no `From`: a place fits 32 bits only since the source is short.
+    match encoding::utf8::check(s) {
+        Ok(()) => Ok(()),
+        Err(e) => Err(Unfit::Ill(BytePos(e.at as u32))),
     }
 }

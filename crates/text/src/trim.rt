@@ -15,26 +15,14 @@ fn ends_white(s: &[u8], n: usize) -> bool
         return false;
     }
     let c = char_at(s, s.len() - n);
-    if c.len == n {
-        return is_white(c.code);
-    }
-    false
+    c.len == n && is_white(c.code)
 }
 
 // The last three bytes are U+3000, of all White_Space with several bytes what line comments end in most.
 fn ends_3000(s: &[u8]) -> bool
     ensures { result ≡ ends3000 s.now }
 {
-    let n = s.len();
-    if n < 3 {
-        return false;
-    }
-    if s[n - 1] == 0x80 {
-        if s[n - 2] == 0x80 {
-            return s[n - 3] == 0xE3;
-        }
-    }
-    false
+    matches!(s, [.., 0xE3, 0x80, 0x80])
 }
 
 // How many bytes the White_Space character has that ends the text: 0 where none does.
@@ -66,6 +54,7 @@ pub fn trimmed(t: &[u8]) -> &[u8]
     ensures { result.now ≡ trim t.now }
 {
     let mut n = t.len();
+    // no `for`: a step is as long as the character that ends the text
     while 0 < n {
         let white = white_end(&t[..n]);
         if white == 0 {

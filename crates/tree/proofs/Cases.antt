@@ -1,8 +1,8 @@
 -- Worked cases of the definitions, computed by antt. Assumes nothing.
+use Rattle.std.specs.Prelude.{Some, None}
 use mathlib.Core.Path.{◌≡◌, refl}
 use Prim.Native.Nat.{ℕ}
 use mathlib.Core.List.{List, [], ◌∷◌, ◌++◌}
-use Rattle.tree.specs.declared.cursor.Found.TheVariants.{At, None}
 use Rattle.tree.specs.Records.{four, body_of, record_of, records_from, records}
 use Rattle.tree.specs.Table.{node_of}
 use Rattle.tree.specs.Cursor.{siblings, shown, passes, kept, behind, cursor_of, children_of, peek_of, take_of}
@@ -24,7 +24,7 @@ children : shown (records sample) (children_of (records sample) 0) ≡ 1 ∷ 2 �
 unfolding sample word leaf node four body_of record_of records_from siblings shown behind node_of
 children = refl
 
-takes : take_of (records sample) (cursor_of 1 6) ≡ record { found = At (record { 0 = 2 }); rest = cursor_of 4 6 }
+takes : take_of (records sample) (cursor_of 1 6) ≡ record { found = Some (record { 0 = 2 }); rest = cursor_of 4 6 }
 unfolding sample word leaf node four body_of record_of records_from siblings shown passes kept behind node_of
 takes = refl
 

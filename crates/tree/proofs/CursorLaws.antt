@@ -1,25 +1,21 @@
 -- Siblings one by one: what a cursor shows, and what is left behind the first. Assumes nothing.
-use mathlib.Core.Path.{◌≡◌, refl, sym, ap, ap₂, ◌∙◌}
+use Rattle.std.specs.Prelude.{Option, Some, None}
+use mathlib.Core.Path.{◌≡◌, refl, sym, ap, ◌∙◌}
 use mathlib.Core.Logic.{⊎_elim}
 use mathlib.Core.Bool.{Bool, true, false, cond}
 use mathlib.Core.List.{List, [], ◌∷◌}
 use Prim.Native.Nat.{ℕ, zero, suc, ◌+◌, ◌-◌, ◌≤◌, ◌<◌, min}
 use native.Mathlib.Nat.{add-zero, add-suc, suc-add, le_of_lt, min-eq_left, min-eq_right}
-use native.Mathlib.Numerals.{add-one}
 use native.Mathlib.Omega.{arith}
-use lib.Dec.{ltb}
 use borrow.Author.Tests.{lt-ltb, le-ltb}
 use lib.ListN.{length, take, drop, length-take, length-drop, drop_of_length-le}
 use lib.Seq.{drop-cons, drop-drop, drop-length, take-nil, take_all}
 use Rattle.tree.specs.declared.record.RecordNo.{RecordNo}
 use Rattle.tree.specs.declared.record.Record.{Record}
 use Rattle.tree.specs.declared.cursor.Cursor.{Cursor}
-use Rattle.tree.specs.declared.cursor.Found.{Found}
-use Rattle.tree.specs.declared.cursor.Found.TheVariants.{At, None}
-use Rattle.tree.specs.declared.cursor.Taken.{Taken}
 use Rattle.tree.specs.Records.{cut_record}
 use Rattle.tree.specs.Table.{node_of}
-use Rattle.tree.specs.Cursor.{found_of, siblings, shown, passes, kept, behind, cursor_of, children_of, head_of, peek_of, first_of, taken_as}
+use Rattle.tree.specs.Cursor.{found_of, siblings, shown, passes, kept, behind, cursor_of, head_of, peek_of, first_of}
 use Rattle.white.proofs.Bools.{le_or_lt}
 use Rattle.tree.proofs.RecordLaws.{drop_take}
 
@@ -27,31 +23,13 @@ use Rattle.tree.proofs.RecordLaws.{drop_take}
 
 module _ (rs : List Record) where
   module _ (k : ℕ) {n : ℕ} {r : Record} (all : n ≡ length rs) (read : r ≡ node_of rs k) where
-    pub behind_in : k + 1 + r.below < n → k + 1 + r.below ≡ behind rs k
+    pub behind_is : min (k + 1 + r.below) n ≡ behind rs k
     unfolding behind
-    behind_in h = sym (rw (← read, ← all, ← add-one k) (min-eq_right (le_of_lt h)))
-
-    pub behind_out : n ≤ k + 1 + r.below → n ≡ behind rs k
-    unfolding behind
-    behind_out h = sym (rw (← read, ← all, ← add-one k) (min-eq_left h))
-
-    pub behind_leaf : r.below ≡ 0 → k < n → k + 1 ≡ behind rs k
-    unfolding behind
-    behind_leaf z h = sym (rw (← read, z, ← all) (omega arith))
-
-    pub behind_none : n ≤ k → n ≡ behind rs k
-    unfolding behind
-    behind_none h = sym (rw (← read, ← all) (omega arith))
+    behind_is = sym (rw (← read, ← all) (omega arith))
 
   pub behind_le : (k : ℕ) → (behind rs k ≤ length rs) × (k < length rs → k < behind rs k)
   unfolding behind
   behind_le k = (omega arith, λ h. omega arith)
-
-  pub children_in : {k : ℕ} {e : RecordNo} → k < length rs → e.0 ≡ behind rs k → ◌≡◌ {A = Cursor} (record { at = record { 0 = k + 1 }; end = e }) (children_of rs k)
-  children_in {k} {e} h q = ap₂ cursor_of (add-one k ∙ sym (min-eq_right h)) q
-
-  pub children_out : {k : ℕ} {n e : RecordNo} → n.0 ≡ length rs → n.0 ≤ k → e.0 ≡ behind rs k → ◌≡◌ {A = Cursor} (record { at = n; end = e }) (children_of rs k)
-  children_out {k} {n} {e} f h q = ap₂ cursor_of (f ∙ sym (min-eq_left (omega arith))) q
 
 -- ---- what a cursor shows
 
@@ -143,12 +121,8 @@ kept_few rs (k ∷ ks) = go (passes (node_of rs k)) (kept_few rs ks)
 
 -- ---- the cursor's answers
 
-pub passes_is : (rs : List Record) (k : ℕ) {n : ℕ} → n ≡ (node_of rs k).kind → ltb n 3 ≡ passes (node_of rs k)
-unfolding passes
-passes_is rs k e = ap (λ (n : ℕ). ltb n 3) e
-
 -- a number, and what it says was found
-pub found_is : {k : RecordNo} → k.0 < 8192 → found_of k ≡ At k
+pub found_is : {k : RecordNo} → k.0 < 8192 → found_of k ≡ Some k
 unfolding found_of
 found_is {k} h = rw (lt-ltb k.0 8192 h)
 
@@ -157,7 +131,7 @@ unfolding found_of
 found_not {k} h = rw (le-ltb k.0 8192 h)
 
 module _ (rs : List Record) (c : Cursor) where
-  pub first_in : c.at.0 < c.end.0 → c.at.0 < length rs → At c.at ≡ first_of rs c
+  pub first_in : c.at.0 < c.end.0 → c.at.0 < length rs → Some c.at ≡ first_of rs c
   first_in h l = sym (ap head_of (shown_cons rs c.at.0 c.end.0 h l))
 
   pub first_past : c.end.0 ≤ c.at.0 → None ≡ first_of rs c
@@ -183,21 +157,12 @@ module _ {rs : List Record} {c : Cursor} {at : ℕ} (v : Peeking rs c at) where
     unfolding kept
     first_kept = ap (kept rs) (shown_cons rs at c.end.0 h l)
 
-    pub peek_finds : passes (node_of rs at) ≡ false → At (record { 0 = at }) ≡ peek_of rs c
+    pub peek_finds : passes (node_of rs at) ≡ false → Some (record { 0 = at }) ≡ peek_of rs c
     peek_finds e = ap head_of (sym (rw e at first_kept) ∙ v.same)
 
     pub peek_passes : {to : ℕ} → passes (node_of rs at) ≡ true → to ≡ behind rs at → Peeking rs c to
     peek_passes e q = rw q (record { same = sym (rw e at first_kept) ∙ v.same })
 
-pub taken_at : (rs : List Record) (c : Cursor) {f : Found} {k e : RecordNo} → f ≡ At k → e.0 ≡ behind rs k.0 → ◌≡◌ {A = Taken} (record { found = At k; rest = record { at = e; end = c.end } }) (taken_as rs c f)
-taken_at rs c {f} {k} {e} q b = rw q (ap took_to b)
-  where
-    took_to : ℕ → Taken
-    took_to n = record { found = At k; rest = record { at = record { 0 = n }; end = c.end } }
-
-pub taken_none : (rs : List Record) (c : Cursor) {f : Found} → f ≡ None → ◌≡◌ {A = Taken} (record { found = f; rest = c }) (taken_as rs c f)
-taken_none rs c q = rw q
-
 -- as far as the list goes
-pub peek_min : (rs : List Record) (at end : ℕ) {last : ℕ} {f : Found} → last ≡ min (length rs) end → f ≡ peek_of rs (cursor_of at last) → f ≡ peek_of rs (cursor_of at end)
+pub peek_min : (rs : List Record) (at end : ℕ) {last : ℕ} {f : Option RecordNo} → last ≡ min (length rs) end → f ≡ peek_of rs (cursor_of at last) → f ≡ peek_of rs (cursor_of at end)
 peek_min rs at end q e = e ∙ ap (λ (n : ℕ). peek_of rs (cursor_of at n)) q ∙ ap (λ (ks : List ℕ). head_of (kept rs ks)) (shown_min rs at end)

@@ -1,4 +1,5 @@
 -- What callers may rely on, one law each: nobody above unfolds a definition of this crate. Assumes nothing.
+use Rattle.std.specs.Prelude.{Some, None}
 use mathlib.Core.Path.{◌≡◌, sym, ap, ◌∙◌}
 use mathlib.Core.List.{List, [], ◌∷◌, ◌++◌}
 use Prim.Native.Nat.{ℕ, ◌+◌, ◌*◌, ◌≤◌, ◌<◌}
@@ -8,7 +9,6 @@ use lib.Seq.{take-length}
 use Rattle.tree.specs.declared.record.RecordNo.{RecordNo}
 use Rattle.tree.specs.declared.record.Record.{Record}
 use Rattle.tree.specs.declared.cursor.Cursor.{Cursor}
-use Rattle.tree.specs.declared.cursor.Found.TheVariants.{At, None}
 use Rattle.tree.specs.Records.{records}
 use Rattle.tree.specs.Table.{words_of, with_record, fitting, tree_of, Decoded}
 use Rattle.tree.specs.Cursor.{found_of, shown, kept, behind, cursor_of, first_of, peek_of}
@@ -52,10 +52,10 @@ tree_few words = table-laws.few words
 -- ---- the cursor over any table, good or not
 
 -- the records shown, and those kept, one by one: the first found, and behind it what the cursor that is left shows and keeps
-pub first_at : {rs : List Record} {c : Cursor} {k : RecordNo} → first_of rs c ≡ At k → FirstAt rs c k.0
+pub first_at : {rs : List Record} {c : Cursor} {k : RecordNo} → first_of rs c ≡ Some k → FirstAt rs c k.0
 first_at {rs} {c} e = peek-laws.first_at rs c e
 
-pub peek_at : {rs : List Record} {c : Cursor} {k : RecordNo} → peek_of rs c ≡ At k → PeekAt rs c k.0
+pub peek_at : {rs : List Record} {c : Cursor} {k : RecordNo} → peek_of rs c ≡ Some k → PeekAt rs c k.0
 peek_at {rs} {c} e = peek-laws.peek_at rs c e
 
 pub first_none : (rs : List Record) (c : Cursor) → first_of rs c ≡ None → shown rs c ≡ []
@@ -72,7 +72,7 @@ pub behind_within : (rs : List Record) (k : ℕ) → behind rs k ≤ length rs
 behind_within rs k = (cursor-laws.behind_le rs k).0
 
 -- a number that may be past the table
-pub found_is : {k : RecordNo} → k.0 < 8192 → found_of k ≡ At k
+pub found_is : {k : RecordNo} → k.0 < 8192 → found_of k ≡ Some k
 found_is h = cursor-laws.found_is h
 
 pub found_not : {k : RecordNo} → 8192 ≤ k.0 → found_of k ≡ None

@@ -3,12 +3,12 @@ use mathlib.Core.Path.{◌≡◌, refl, sym, ap, ap₂, ◌∙◌}
 use mathlib.Core.Bool.{Bool, true, false, cond}
 use mathlib.Core.List.{List, [], ◌∷◌, ◌++◌, append_assoc, append-nil}
 use Prim.Native.Nat.{ℕ, zero, suc, ◌+◌, ◌-◌, ◌*◌, ◌/◌, ◌%◌, ◌≤◌, ◌<◌, min}
-use native.Mathlib.Nat.{sub-zero, le_of_lt, min-eq_left, min-eq_right, mod-eq_of_lt}
+use native.Mathlib.Nat.{sub-zero, mod-eq_of_lt}
 use native.Mathlib.Omega.{arith}
 use lib.Dec.{ltb}
-use lib.ListN.{length, take, drop, get_or, set, length-append, take-append-drop, get_or-eq_default}
-use lib.Seq.{sets-eq, take_all, take_at, drop_at, length-take-le, take-nil, drop-drop, get_or-drop}
-use borrow.Author.Tests.{lt-ltb, le-ltb, ltb-true, le-leb, lt-leb}
+use lib.ListN.{length, take, drop, get_or, length-append, take-append-drop, get_or-eq_default}
+use lib.Seq.{take_all, take_at, drop_at, length-take-le, take-nil, drop-drop, get_or-drop}
+use borrow.Author.Tests.{lt-ltb, le-ltb, ltb-true, le-leb}
 use Rattle.tree.specs.declared.record.Record.{Record}
 use Rattle.tree.specs.Records.{start_of, end_of, four, body_of, span_of, cut_record, record_of, record_at, records_from, records}
 use Rattle.tree.specs.Table.{kind_word, words_of, with_record, room_of, fitting, read_from, table_of, tree_of, Decoded, node_of}
@@ -16,13 +16,9 @@ use Rattle.tree.proofs.RecordLaws.{body_le, records_none, split}
 
 -- ---- room
 
-pub room_some : (n : ℕ) → n / 4 < 8192 → n / 4 ≡ room_of n
+pub room_is : (n : ℕ) → min (n / 4) 8192 ≡ room_of n
 unfolding room_of
-room_some n h = sym (min-eq_right (le_of_lt h))
-
-pub room_most : (n : ℕ) → 8192 ≤ n / 4 → 8192 ≡ room_of n
-unfolding room_of
-room_most n h = sym (min-eq_left h)
+room_is n = omega arith
 
 pub room_le : (n : ℕ) → (room_of n ≤ 8192) × (room_of n * 4 ≤ n)
 unfolding room_of
@@ -37,14 +33,6 @@ unfolding fitting room_of
 fitting_all list n h k = take_all (min 8192 (n / 4)) (records list) (omega arith)
 
 -- ---- one record
-
-pub kind_whole : (r : Record) → r.whole ≡ true → r.kind ≡ kind_word r
-unfolding kind_word
-kind_whole r e = sym (rw e)
-
-pub kind_cut : (r : Record) → r.whole ≡ false → 256 + r.kind ≡ kind_word r
-unfolding kind_word
-kind_cut r e = sym (rw e)
 
 pub read_whole : (k a e n : ℕ) → k < 256 → ◌≡◌ {A = Record} (record { whole = true; kind = k; span = span_of a e; below = n }) (read_from k a e n)
 unfolding read_from
@@ -146,10 +134,6 @@ words_append (r ∷ rs) ss = ap (λ (l : List ℕ). kind_word r ∷ start_of r �
 
 module _ (words : List ℕ) (k : ℕ) (r : Record) where
   module _ (room : k * 4 + 4 ≤ length words) where
-    pub put_there : {words' : List ℕ} {w : ℕ} → w ≡ kind_word r → words' ≡ take (k * 4) words ++ (w ∷ start_of r ∷ end_of r ∷ r.below ∷ []) ++ drop (k * 4 + 4) words → words' ≡ with_record words k r
-    unfolding with_record words_of
-    put_there word e = rw (le-leb (k * 4 + 4) (length words) room, ← word) e
-
     -- the words in front stay, and those of the record follow
     pub put_front : take ((k + 1) * 4) (with_record words k r) ≡ take (k * 4) words ++ words_of (r ∷ [])
     unfolding with_record
@@ -157,18 +141,7 @@ module _ (words : List ℕ) (k : ℕ) (r : Record) where
         let long : length (take (k * 4) words ++ words_of (r ∷ [])) ≡ (k + 1) * 4 = omega (arith, length-append (take (k * 4) words) (words_of (r ∷ [])), words_length (r ∷ []), length-take-le (k * 4) words (omega arith)) in
         rw (le-leb (k * 4 + 4) (length words) room) (take_at (take (k * 4) words ++ words_of (r ∷ [])) (drop (k * 4 + 4) words) ((k + 1) * 4) long)
 
-  pub put_nowhere : length words < k * 4 + 4 → words ≡ with_record words k r
-  unfolding with_record
-  put_nowhere h = rw (lt-leb (k * 4 + 4) (length words) h)
-
 -- ---- decoding
-
-pub four_stores : (l : List ℕ) (i a b c d : ℕ) → i + 4 ≤ length l → set (set (set (set l i a) (i + 1) b) (i + 2) c) (i + 3) d ≡ take i l ++ (a ∷ b ∷ c ∷ d ∷ []) ++ drop (i + 4) l
-four_stores l i a b c d h =
-    let e₁ : i + 1 ≡ suc i = omega arith in
-    let e₂ : i + 2 ≡ suc (suc i) = omega arith in
-    let e₃ : i + 3 ≡ suc (suc (suc i)) = omega arith in
-    rw (e₁, e₂, e₃) (sets-eq (a ∷ b ∷ c ∷ d ∷ []) l i h)
 
 -- n records are written, the next one starts at byte `at`
 pub record Writing (list to₀ to : List ℕ) (most n at : ℕ) : Type 0 where
@@ -242,5 +215,8 @@ module _ {list to₀ to : List ℕ} {most n at : ℕ} (p : Writing list to₀ to
     pub writing_end : length list ≤ at → Decoded list to₀ n to
     writing_end h = written (rw (records_none list at h, take-nil))
 
-    pub writing_full : most ≤ n → Decoded list to₀ n to
-    writing_full h = let z : most - n ≡ 0 = omega arith in written (rw z)
+    pub writing_full : most ≤ n → Decoded list to₀ most to
+    writing_full h =
+        let z : most - n ≡ 0 = omega arith in
+        let e : n ≡ most = omega (arith, p.few) in
+        rw (← e) (written (rw z))

@@ -1,11 +1,8 @@
 -- A node's children as a list of record numbers, and the cursor over them. Assumes nothing.
-use Rattle.std.specs.Prelude.{ℕ, zero, suc, ◌+◌, ◌-◌, min, Bool, true, false, cond, List, [], ◌∷◌, length, take, drop, ltb}
+use Rattle.std.specs.Prelude.{ℕ, zero, suc, ◌+◌, ◌-◌, min, Bool, true, false, cond, List, [], ◌∷◌, length, take, drop, ltb, Option, Some, None}
 use Rattle.tree.specs.declared.record.Record.{Record}
 use Rattle.tree.specs.declared.record.RecordNo.{RecordNo}
 use Rattle.tree.specs.declared.cursor.Cursor.{Cursor}
-use Rattle.tree.specs.declared.cursor.Found.{Found}
-use Rattle.tree.specs.declared.cursor.Found.TheVariants.{At, None}
-use Rattle.tree.specs.declared.cursor.Taken.{Taken}
 use Rattle.tree.specs.Table.{node_of}
 
 -- ---- siblings
@@ -47,25 +44,30 @@ top_of n = cursor_of 0 n
 
 -- ---- the cursor's answers
 
-abbrev pub head_of : List ℕ → Found
+abbrev pub head_of : List ℕ → Option RecordNo
 head_of [] = None
-head_of (k ∷ ks) = At (record { 0 = k })
+head_of (k ∷ ks) = Some (record { 0 = k })
 
 -- what a record number says was found: nothing, where it is past every table
-unfoldable pub found_of : RecordNo → Found
-found_of k = cond (ltb k.0 8192) (At k) None
+unfoldable pub found_of : RecordNo → Option RecordNo
+found_of k = cond (ltb k.0 8192) (Some k) None
 
 -- the next record, behind white space and comments
-abbrev pub peek_of : List Record → Cursor → Found
+abbrev pub peek_of : List Record → Cursor → Option RecordNo
 peek_of rs c = head_of (kept rs (shown rs c))
 
 -- the next record, white space and comments too
-abbrev pub first_of : List Record → Cursor → Found
+abbrev pub first_of : List Record → Cursor → Option RecordNo
 first_of rs c = head_of (shown rs c)
 
+-- what was taken, and the cursor behind it
+pub record Taken : Type 0 where
+  pub found : Option RecordNo
+  pub rest : Cursor
+
 -- what is taken, and the cursor behind it and all below it; where there is none, the cursor stays
-abbrev pub taken_as : List Record → Cursor → Found → Taken
-taken_as rs c (At k) = record { found = At k; rest = record { at = record { 0 = behind rs k.0 }; end = c.end } }
+abbrev pub taken_as : List Record → Cursor → Option RecordNo → Taken
+taken_as rs c (Some k) = record { found = Some k; rest = record { at = record { 0 = behind rs k.0 }; end = c.end } }
 taken_as rs c None = record { found = None; rest = c }
 
 abbrev pub take_of : List Record → Cursor → Taken
@@ -74,8 +76,8 @@ take_of rs c = taken_as rs c (peek_of rs c)
 abbrev pub child_of : List Record → Cursor → Taken
 child_of rs c = taken_as rs c (first_of rs c)
 
-abbrev pub is_none : Found → Bool
-is_none (At k) = false
+abbrev pub is_none : Option RecordNo → Bool
+is_none (Some k) = false
 is_none None = true
 
 abbrev pub eof_of : List Record → Cursor → Bool

@@ -1,14 +1,15 @@
 // The records of a tree, as they stand in its list of bytes.
-ghost use Rattle.std.specs.Prelude.{◌≡◌, ◌≤◌, ◌<◌, ◌+◌, length, drop};
+ghost use Rattle.std.specs.Prelude.{◌≡◌, ◌≤◌, ◌+◌, length, drop};
 ghost use Rattle.tree.specs.Records.{four, body_of, cut_record, record_at};
 
 use text::span::{BytePos, Span};
 
-// The number of a record in the list. No byte place is one.
-#[derive(Clone, Copy)]
+// The number of a record in the list. No byte place is one. Not `Ord`: clauses compare the numbers themselves, and so does the code.
+#[derive(Clone, Copy, PartialEq, Eq)]
 pub struct RecordNo(pub u32);
 
-// A record as read; a cut one is not whole and has no numbers.
+// A record as read; a cut one is not whole and has no numbers. `whole` is a flag and no `Option` round the numbers: a cut record has a kind, and
+// definitions `cut_record` and `node_of` give it an empty span, which all above read.
 #[derive(Clone, Copy)]
 pub struct Record {
     pub whole: bool,
@@ -17,26 +18,16 @@ pub struct Record {
     pub below: u32,
 }
 
-// A byte as a number of 32 bits.
-fn wide(x: u8) -> u32
-    ensures { (result ≡ x) × (result < 256) }
-{
-    x as u32
-}
-
 // Four bytes at i, low byte first.
 fn four_at(s: &[u8], i: usize) -> u32
     requires { i + 4 ≤ length s.now }
     ensures { result ≡ four (drop i s.now) }
 {
-    let a = wide(s[i]);
-    let b = wide(s[i + 1]);
-    let c = wide(s[i + 2]);
-    let d = wide(s[i + 3]);
-    a + b * 0x100 + c * 0x10000 + d * 0x1000000
+    u32::from_le_bytes([s[i], s[i + 1], s[i + 2], s[i + 3]])
 }
 
 // How many bytes stand behind a byte of kind.
+#[tactic(auto, unfolding(crate::specs::Records::body_of))]
 pub fn body(kind: u8) -> usize
     ensures { result ≡ body_of kind }
 {
@@ -74,15 +65,7 @@ pub fn record_at(list: &[u8], at: usize) -> Record
         start: BytePos(four_at(list, p)),
         end: BytePos(four_at(list, p + 4)),
     };
-    if kind < 0x80 {
-        return Record {
-            whole: true,
-            kind,
-            span,
-            below: 0,
-        };
-    }
-    let below = four_at(list, p + 8);
+    let below = if kind < 0x80 { 0 } else { four_at(list, p + 8) };
     Record {
         whole: true,
         kind,

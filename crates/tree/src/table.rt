@@ -1,4 +1,5 @@
-// The decoded tree: a table of four words a record, so that any record is reached at once.
+// The decoded tree: a table of four words a record, so that any record is reached at once. Words and no `[Record]`: definitions `words_of`,
+// `table_of` and `Decoded` of specs/Table speak of them.
 ghost use Rattle.std.specs.Prelude.{◌≡◌, ◌∷◌, [], ◌++◌, ◌≤◌, ◌+◌, ◌*◌, length, take, drop};
 ghost use Rattle.tree.specs.Table.{kind_word, with_record, Decoded, room_of, tree_of, node_of, read_from};
 
@@ -6,23 +7,20 @@ use crate::record::{Record, RecordNo, body, cut, record_at};
 use text::span::{BytePos, Span};
 
 // How many records there is room for in n words, 8,192 at most.
+#[tactic(auto, using(crate::proofs::TableLaws::room_is))]
 fn room(n: usize) -> usize
     ensures { result ≡ room_of n }
 {
-    let k = n / 4;
-    if k < 8192 { k } else { 8192 }
+    (n / 4).min(8192)
 }
 
 // The kind, and 256 more for a record that is cut.
+#[tactic(auto, unfolding(crate::specs::Table::kind_word))]
 fn kind_word(r: Record) -> u32
     ensures { result ≡ kind_word r }
 {
-    let whole = r.whole;
-    if whole {
-        r.kind as u32
-    } else {
-        256 + (r.kind as u32)
-    }
+    let kind = u32::from(r.kind);
+    if r.whole { kind } else { 256 + kind }
 }
 
 // Four words at a place.
@@ -37,6 +35,7 @@ fn put(to: &mut [u32], at: usize, a: u32, b: u32, c: u32, d: u32)
 }
 
 // Writes the words of record k, where the table has room for them.
+#[tactic(auto, unfolding(crate::specs::Table::with_record, crate::specs::Table::words_of))]
 pub fn put_record(to: &mut [u32], k: RecordNo, r: Record)
     ensures { to.new ≡ with_record to.old k.0 r }
 {
@@ -51,9 +50,8 @@ pub fn decode(list: &[u8], to: &mut [u32]) -> RecordNo
     ensures { Decoded list.now to.old result.0 to.new }
 {
     let most = room(to.len());
-    let mut n: usize = 0;
     let mut at: usize = 0;
-    while n < most {
+    for n in 0..most {
         if list.len() <= at {
             return RecordNo(n as u32);
         }
@@ -66,10 +64,9 @@ pub fn decode(list: &[u8], to: &mut [u32]) -> RecordNo
             r.span.end.0,
             r.below,
         );
-        n += 1;
         at += 1 + body(r.kind);
     }
-    RecordNo(n as u32)
+    RecordNo(most as u32)
 }
 
 // The words of the first n records.
@@ -77,10 +74,7 @@ pub fn first(table: &[u32], n: RecordNo) -> &[u32]
     ensures { result.now ≡ take (n.0 * 4) table.now }
 {
     let e = (n.0 as usize) * 4;
-    if table.len() <= e {
-        return table;
-    }
-    &table[0..e]
+    &table[..e.min(table.len())]
 }
 
 // How many records the table holds.
@@ -91,6 +85,7 @@ pub fn size(table: &[u32]) -> RecordNo
 }
 
 // The record that four words stand for.
+#[tactic(auto, unfolding(crate::specs::Table::read_from))]
 fn read(kind: u32, start: u32, end: u32, below: u32) -> Record
     ensures { result ≡ read_from kind start end below }
 {

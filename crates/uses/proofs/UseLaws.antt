@@ -1,7 +1,11 @@
 -- Laws of uses: whether a group has one path, its braces, the depth that is left. Assumes nothing.
-use Rattle.steps.proofs.Rules.{◌≡◌, refl, sym, ap, ◌∙◌, Bool, true, false, not, List, [], ◌∷◌, ◌⊎◌, inl, inr, ℕ, zero, suc, ◌-◌, ◌<◌, arith}
+use Rattle.lent.specs.declared.formatter.Formatter.{Formatter}
+use Rattle.std.specs.Prelude.{Option}
+use Rattle.steps.proofs.Rules.{◌≡◌, refl, sym, ap, ◌∙◌, Bool, true, false, List, [], ◌∷◌, ◌⊎◌, inl, inr, ℕ, zero, suc, ◌-◌, ◌<◌, arith}
 use Rattle.steps.proofs.Rules.{length, Record, RecordNo, Kind, TreeDeep, Script, Plan, refuse, Engine, engine, Makes, Refuses, Stream, records_of}
-use Rattle.steps.proofs.Rules.{next_in, next_is, take_in, take_if, take_any, Ate, ◌▸◌, write, ignored, pump, expect, is, Goes, Few, Zero, One, Many, more}
+use Rattle.steps.proofs.Rules.{next_in, next_is, take_in, take_if, take_any, Ate, ◌▸◌, write, ignored, pump, expect, is, Goes, more}
+use Rattle.steps.specs.declared.items.Few.{Few}
+use Rattle.steps.specs.declared.items.Few.TheVariants.{Zero, One, Many}
 use Rattle.steps.proofs.Rules.{list, pump_takes}
 use Rattle.uses.specs.Use.{use_path_rule, how_many, is_one, braced, group_rule, use_path, use_group}
 
@@ -25,7 +29,7 @@ more_one Many = refl
 
 module _ (want : ℕ → Bool) {s₀ s : Stream} {found t u : Bool} (e : t ≡ next_is (λ (k : ℕ). true) s) (h : t ≡ true) (f : u ≡ next_is want s) where
   -- the next is counted, if it is wanted, and is the first; or it is not wanted
-  pub single_on : {found' : Bool} {k : RecordNo} {s' : Stream} → ◌⊎◌ ((u ≡ true) × (found ≡ false) × (found' ≡ true)) ((u ≡ false) × (found' ≡ found)) → Ate (take_any s) k s' → Single want s₀ s found → Single want s₀ s' found'
+  pub single_on : {found' : Bool} {k : Option RecordNo} {s' : Stream} → ◌⊎◌ ((u ≡ true) × (found ≡ false) × (found' ≡ true)) ((u ≡ false) × (found' ≡ found)) → Ate (take_any s) k s' → Single want s₀ s found → Single want s₀ s' found'
   unfolding how_many take_if
   single_on {found'} c a g = record { counted = rw a.rest (go s.node s.left (sym e ∙ h) (sym f) g.counted) }
     where
@@ -55,7 +59,7 @@ single_all want {s₀} {s} {found} e h g = go s.left (sym e ∙ h) g.counted
     go (k ∷ ks) h g = let z : ◌≡◌ {A = ℕ} 0 1 = cc in absurd (omega arith)
 
 -- what is left falls
-pub taken_less : (s : Stream) {s' : Stream} {k : RecordNo} {t : Bool} → t ≡ next_is (λ (k : ℕ). true) s → t ≡ true → Ate (take_any s) k s' → length s'.left < length s.left
+pub taken_less : (s : Stream) {s' : Stream} {k : Option RecordNo} {t : Bool} → t ≡ next_is (λ (k : ℕ). true) s → t ≡ true → Ate (take_any s) k s' → length s'.left < length s.left
 unfolding pump
 taken_less s e h a = rw a.rest ((pump_takes (λ (k : ℕ). true) write).less s (sym e ∙ h))
 
@@ -77,7 +81,7 @@ grouped {s = s} rs path {t = t} h q g = let z : is_one (how_many (is rs Kind.Ite
 -- ---- the depth that is left
 
 module _ {x : Script} (rs : List Record) where
-  pub use_none : (d : ℕ) {k : RecordNo} {s : Stream} {w w' q b : List ℕ} → d ≡ 0 → k ≡ s.node → Refuses (refuse (TreeDeep k)) w w' → Goes x (use_path rs d) s (engine w q b) (engine w' q b) s
+  pub use_none : (d : ℕ) {k : RecordNo} {s : Stream} {w w' : Formatter} {q b : List ℕ} → d ≡ 0 → k ≡ s.node → Refuses (refuse (TreeDeep k)) w w' → Goes x (use_path rs d) s (engine w q b) (engine w' q b) s
   unfolding use_path
   use_none d e n h = rw e (record { ran = rw (← n) (h.ran x _ _); at = refl })
 

@@ -9,7 +9,9 @@ use Rattle.meaning.specs.Plan.{Plan, nothing, refuse}
 use Rattle.walk.specs.Stream.{Stream}
 use Rattle.walk.specs.Flow.{Flow, flow, ◌▸◌, plain, call, write, spaced, ignored, pump, expect, eat, if_next, is, parse}
 use Rattle.walk.specs.Loop.{loop}
-use Rattle.steps.specs.Items.{Few, Zero, One, Many, more, list}
+use Rattle.steps.specs.Items.{more, list}
+use Rattle.steps.specs.declared.items.Few.{Few}
+use Rattle.steps.specs.declared.items.Few.TheVariants.{Zero, One, Many}
 
 unfoldable pub use_part : List Record → (RecordNo → Plan) → RecordNo → Plan
 use_part rs group k = cond (is rs Kind.ItemUseGroup k.0) (group k) (write k)

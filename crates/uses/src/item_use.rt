@@ -6,15 +6,15 @@ ghost use Rattle.uses.specs.Use.{use_part, use_path, use_group, item_use};
 
 use crate::use_parts::{as_name, before_as, brace, is_single};
 use calls::{write_owned, ws};
-use kinds::bytes;
-use lent::formatter::{Formatter, refuse};
+use kinds::{Kind, bytes};
+use lent::formatter::Formatter;
 use lent::ring::Queue;
 use meaning::answer::Refusal;
 use steps::items::{before_item, behind_item, close_list};
-use steps::remaining::fresh;
+use steps::remaining::Remaining;
 use tree::record::RecordNo;
 use tree::table::kind_at;
-use walk::stream::{Stream, left_over, next_is, node_of, pump, records_of};
+use walk::stream::{Stream, records_of};
 use walk::tokens::token;
 
 // format.rs 1496 to 1542.
@@ -32,17 +32,17 @@ pub fn item_use_group(
 {
     let mut p = records_of(table, k);
     let one = is_single(table, k);
-    brace(src, table, fmt, queue, out, &mut p, bytes::BRACE_OPEN, one);
-    let mut comma = fresh();
-    while next_is(table, &p, bytes::ITEM_USE_PATH) {
+    brace(src, table, fmt, queue, out, &mut p, Kind::OpenBrace, one);
+    let mut comma = Remaining::Fresh;
+    while p.next_is(table, Kind::ItemUsePath) {
         before_item(src, table, fmt, queue, out, comma);
-        let n = pump(table, fmt, &mut p);
+        let n = p.pump(table, fmt);
         use_node(src, table, fmt, queue, out, n, depth);
         comma = behind_item(src, table, fmt, queue, out, &mut p);
     }
     close_list(src, table, fmt, queue, out, comma);
-    brace(src, table, fmt, queue, out, &mut p, bytes::BRACE_CLOSE, one);
-    left_over(table, fmt, &p);
+    brace(src, table, fmt, queue, out, &mut p, Kind::CloseBrace, one);
+    p.left_over(table, fmt);
 }
 
 // A group by its rule, any other node whole.
@@ -79,11 +79,11 @@ pub fn item_use_path(
     ensures { Walked src table fmt queue out p (use_path (tree table) depth) }
 {
     if depth == 0 {
-        refuse(fmt, Refusal::TreeDeep(node_of(table, p)));
+        fmt.refuse(Refusal::TreeDeep(p.node_of(table)));
         return;
     }
     while before_as(table, p) {
-        let n = pump(table, fmt, p);
+        let n = p.pump(table, fmt);
         use_part(src, table, fmt, queue, out, n, depth - 1);
     }
     as_name(src, table, fmt, queue, out, p);
@@ -104,7 +104,7 @@ pub fn use_node(
 {
     let mut p = records_of(table, k);
     item_use_path(src, table, fmt, queue, out, &mut p, depth);
-    left_over(table, fmt, &p);
+    p.left_over(table, fmt);
 }
 
 // format.rs 1464 to 1468.
@@ -118,7 +118,7 @@ pub fn item_use(
 )
     ensures { Walked src table fmt queue out p (item_use (tree table)) }
 {
-    token(src, table, fmt, queue, out, p, bytes::KW_USE);
+    token(src, table, fmt, queue, out, p, Kind::Use);
     ws(src, table, fmt, queue, out);
     item_use_path(src, table, fmt, queue, out, p, 64);
 }

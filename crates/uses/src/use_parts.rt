@@ -6,12 +6,12 @@ ghost use Rattle.walk.specs.Flow.{Walked, expect_byte, is};
 ghost use Rattle.uses.specs.Use.{how_many, is_one, braced, as_name};
 
 use calls::{ignore, write_owned, ws};
-use kinds::bytes;
+use kinds::{Kind, KindByte, bytes};
 use lent::formatter::Formatter;
 use lent::ring::Queue;
 use tree::record::RecordNo;
 use tree::table::kind_at;
-use walk::stream::{Stream, expect, has_next, is_some, next_is, peek, records_of, take};
+use walk::stream::{Stream, records_of};
 use walk::tokens::{any, spaced_if};
 
 // Whether one of the records of node k is a path, and no more.
@@ -20,32 +20,32 @@ pub fn is_single(table: &[u32], k: RecordNo) -> bool
 {
     let mut p = records_of(table, k);
     let mut found = false;
-    while has_next(table, &p) {
-        if next_is(table, &p, bytes::ITEM_USE_PATH) {
+    while p.has_next(table) {
+        if p.next_is(table, Kind::ItemUsePath) {
             if found {
                 return false;
             }
             found = true;
         }
-        take(table, &mut p);
+        p.take(table);
     }
     found
 }
 
 // A brace: around one path it is passed over.
-pub fn brace(
+pub fn brace<K: KindByte>(
     src: &[u8],
     table: &[u32],
     fmt: &mut Formatter,
     queue: &mut Queue,
     out: &mut [u8],
     p: &mut Stream,
-    kind: u8,
+    kind: K,
     single: bool,
 )
-    ensures { Walked src table fmt queue out p (expect_byte (tree table) kind (braced single)) }
+    ensures { Walked src table fmt queue out p (expect_byte (tree table) (K.as_byte kind) (braced single)) }
 {
-    let k = expect(table, fmt, p, kind);
+    let k = p.expect(table, fmt, kind);
     if single {
         ignore(src, table, fmt, queue, out, k);
         return;
@@ -57,11 +57,10 @@ pub fn brace(
 pub fn before_as(table: &[u32], p: &Stream) -> bool
     ensures { result ≡ next_is (λ (k : ℕ). not (is (tree table) Kind.As k)) (stream_here table p) }
 {
-    let k = peek(table, p);
-    if is_some(k) {
-        return kind_at(table, k) != bytes::KW_AS;
+    match p.peek(table) {
+        Some(k) => kind_at(table, k) != bytes::KW_AS,
+        None => false,
     }
-    false
 }
 
 // `as` and a name, or `as` alone; what stands behind is left over.
@@ -75,9 +74,9 @@ pub fn as_name(
 )
     ensures { Walked src table fmt queue out p (as_name (tree table)) }
 {
-    if next_is(table, p, bytes::KW_AS) {
+    if p.next_is(table, Kind::As) {
         ws(src, table, fmt, queue, out);
         any(src, table, fmt, queue, out, p);
-        spaced_if(src, table, fmt, queue, out, p, bytes::IDENT);
+        spaced_if(src, table, fmt, queue, out, p, Kind::Ident);
     }
 }

@@ -2,9 +2,10 @@
 // place over all inputs of one, two and three bytes and the edges of those of four, against a naive decoder.
 #![tactic(auto)]
 
+ghost use Rattle.std.specs.Prelude.{◌≤◌};
+
 mod naive;
 
-use encoding::utf8::Formed;
 use std::io;
 
 // White_Space, Unicode's property, code point by code point.
@@ -20,166 +21,92 @@ const LEADS: [u8; 10] = [0xC1, 0xDF, 0xE0, 0xED, 0xEF, 0xF0, 0xF1, 0xF3, 0xF4, 0
 const SECONDS: [u8; 10] = [0x00, 0x7F, 0x80, 0x8F, 0x90, 0x9F, 0xA0, 0xBF, 0xC0, 0xFF];
 
 // How many inputs were run, how many were white or well-formed, and how many came out differently.
-#[derive(Clone, Copy)]
+#[derive(Clone, Copy, Default)]
 struct Tally {
     run: u64,
     yes: u64,
     differ: u64,
 }
 
-fn more(n: u64, by: bool) -> u64 {
-    if by {
-        if n < 0xFFFF_FFFF {
-            return n + 1;
-        }
+impl Tally {
+    fn add(&mut self, yes: bool, differs: bool) {
+        self.run = self.run.saturating_add(1);
+        self.yes = self.yes.saturating_add(yes as u64);
+        self.differ = self.differ.saturating_add(differs as u64);
     }
-    n
-}
 
-fn listed(c: u32) -> bool {
-    for k in 0..25 {
-        if WHITES[k] == c {
-            return true;
-        }
+    fn text(&mut self, s: &[u8]) {
+        let found = encoding::utf8::check(s);
+        self.add(found.is_ok(), found != naive::check(s));
     }
-    false
 }
 
 fn whites() -> Tally {
-    let mut t = Tally {
-        run: 0,
-        yes: 0,
-        differ: 0,
-    };
+    let mut tally = Tally::default();
     for c in 0..0x110000 {
         let white = white::is_white(c);
-        t = Tally {
-            run: more(t.run, true),
-            yes: more(t.yes, white),
-            differ: more(t.differ, white != listed(c)),
-        };
+        tally.add(white, white != WHITES.contains(&c));
     }
-    t
+    tally
 }
 
-fn same(a: Formed, b: Formed) -> bool {
-    match a {
-        Formed::Well => match b {
-            Formed::Well => true,
-            Formed::Ill(_) => false,
-        },
-        Formed::Ill(p) => match b {
-            Formed::Well => false,
-            Formed::Ill(q) => p == q,
-        },
+// All inputs of N bytes: the last N of each number.
+fn all<const N: usize>(inputs: u32) -> Tally
+    requires { N ≤ 4 }
+{
+    let mut tally = Tally::default();
+    for n in 0..inputs {
+        tally.text(&n.to_be_bytes()[4 - N..]);
     }
+    tally
 }
 
-fn is_well(f: Formed) -> bool {
-    if let Formed::Well = f { true } else { false }
-}
-
-fn with(t: Tally, s: &[u8]) -> Tally {
-    let found = encoding::utf8::check(s);
-    Tally {
-        run: more(t.run, true),
-        yes: more(t.yes, is_well(found)),
-        differ: more(t.differ, !same(found, naive::check(s))),
-    }
-}
-
-fn one() -> Tally {
-    let mut t = Tally {
-        run: 0,
-        yes: 0,
-        differ: 0,
-    };
-    for n in 0..0x100u32 {
-        t = with(t, &[(n % 256) as u8]);
-    }
-    t
-}
-
-fn two() -> Tally {
-    let mut t = Tally {
-        run: 0,
-        yes: 0,
-        differ: 0,
-    };
-    for n in 0..0x10000u32 {
-        t = with(t, &[(n / 256 % 256) as u8, (n % 256) as u8]);
-    }
-    t
-}
-
-fn three() -> Tally {
-    let mut t = Tally {
-        run: 0,
-        yes: 0,
-        differ: 0,
-    };
-    for n in 0..0x1000000u32 {
-        t = with(
-            t,
-            &[
-                (n / 65536 % 256) as u8,
-                (n / 256 % 256) as u8,
-                (n % 256) as u8,
-            ],
-        );
-    }
-    t
-}
-
-// Four bytes from the edges, by the digits of n.
+// Four bytes from the edges.
 fn four() -> Tally {
-    let mut t = Tally {
-        run: 0,
-        yes: 0,
-        differ: 0,
-    };
-    for n in 0..10000 {
-        let a = LEADS[n / 1000 % 10];
-        let b = SECONDS[n / 100 % 10];
-        let c = SECONDS[n / 10 % 10];
-        let d = SECONDS[n % 10];
-        t = with(t, &[a, b, c, d]);
+    let mut tally = Tally::default();
+    for a in LEADS {
+        for b in SECONDS {
+            for c in SECONDS {
+                for d in SECONDS {
+                    tally.text(&[a, b, c, d]);
+                }
+            }
+        }
     }
-    t
+    tally
 }
 
 // Three bytes from the edges behind up to 68 plain ones, so that they lie across the ends of blocks.
 fn behind() -> Tally {
-    let mut t = Tally {
-        run: 0,
-        yes: 0,
-        differ: 0,
-    };
-    for n in 0..69000 {
-        let at = n / 1000 % 69;
-        let mut s = [b'x'; 72];
-        s[at] = LEADS[n / 100 % 10];
-        s[at + 1] = SECONDS[n / 10 % 10];
-        s[at + 2] = SECONDS[n % 10];
-        t = with(t, &s);
+    let mut tally = Tally::default();
+    for at in 0..69 {
+        for a in LEADS {
+            for b in SECONDS {
+                for c in SECONDS {
+                    let mut s = [b'x'; 72];
+                    s[at] = a;
+                    s[at + 1] = b;
+                    s[at + 2] = c;
+                    tally.text(&s);
+                }
+            }
+        }
     }
-    t
+    tally
 }
 
 fn say(out: &impl Print, name: &str, t: Tally, yes: &str) -> io::Result<()> {
-    let Tally {
-        run,
-        yes: found,
-        differ,
-    } = t;
-    println!(out; "{name}: {run} run, {found} {yes}, {differ} differ")
+    println!(out;
+        "{name}: {} run, {} {yes}, {} differ",
+        t.run, t.yes, t.differ
+    )
 }
 
 fn main(rt: HostRuntime) -> io::Result<()> {
     say(&rt, "code points", whites(), "white")?;
-    say(&rt, "one byte", one(), "well-formed")?;
-    say(&rt, "two bytes", two(), "well-formed")?;
-    say(&rt, "three bytes", three(), "well-formed")?;
+    say(&rt, "one byte", all::<1>(0x100), "well-formed")?;
+    say(&rt, "two bytes", all::<2>(0x1_0000), "well-formed")?;
+    say(&rt, "three bytes", all::<3>(0x100_0000), "well-formed")?;
     say(&rt, "four bytes, edges", four(), "well-formed")?;
     say(&rt, "behind plain bytes", behind(), "well-formed")
 }

@@ -1,9 +1,7 @@
 -- A step of a rule: the calls that it makes, and where it leaves the stream, or whatever else the steps hand on. Assumes nothing.
-use Rattle.std.specs.Prelude.{◌≡◌, ℕ, Bool, cond, ◌||◌, List, [], ◌∷◌}
+use Rattle.std.specs.Prelude.{◌≡◌, ℕ, Bool, cond, ◌||◌, List, [], ◌∷◌, Option, Some, None}
 use Rattle.tree.specs.declared.record.Record.{Record}
 use Rattle.tree.specs.declared.record.RecordNo.{RecordNo}
-use Rattle.tree.specs.declared.cursor.Found.{Found}
-use Rattle.tree.specs.declared.cursor.Found.TheVariants.{At, None}
 use Rattle.kinds.specs.declared.Kind.{Kind}
 use Rattle.kinds.specs.Facts.{byte_of}
 use Rattle.meaning.specs.declared.call.Call.{Call}
@@ -11,8 +9,9 @@ use Rattle.meaning.specs.declared.call.Call.TheVariants.{WriteOwned, Ignore, Ws}
 use Rattle.meaning.specs.declared.answer.Refusal.TheVariants.{WrongKind}
 use Rattle.meaning.specs.State.{Script}
 use Rattle.meaning.specs.Plan.{Plan, nothing, make, refuse, ◌then◌}
-use Rattle.lent.specs.Loans.{Loan, MutLoan, script, Engine, before, after, Makes, Refuses}
-use Rattle.walk.specs.Stream.{Stream, records_of, no, is_byte, next_is, met, Took, take_if, take_any, Ate, tree, stream_in, stream_out}
+use Rattle.lent.specs.declared.formatter.Formatter.{Formatter}
+use Rattle.lent.specs.Loans.{Loan, MutLoan, FormatterLoan, script, Engine, before, after, Makes, Refuses}
+use Rattle.walk.specs.Stream.{Stream, records_of, no, is_byte, next_is, met, Took, take_if, take_any, tree, StreamLoan, StreamMutLoan, stream_here, stream_in, stream_out}
 
 pub record Flow (S : Type 0) : Type 0 where
   pub plan : Plan
@@ -52,8 +51,8 @@ ignored k = make (Ignore k)
 abbrev pub not_met : Stream → Plan
 not_met s = refuse (WrongKind (met s))
 
-unfoldable pub on_found : Found → (RecordNo → Plan) → Plan → Plan
-on_found (At k) f p = f k
+unfoldable pub on_found : Option RecordNo → (RecordNo → Plan) → Plan → Plan
+on_found (Some k) f p = f k
 on_found None f p = p
 
 abbrev pub given : Took → (RecordNo → Plan) → Plan → Flow Stream
@@ -111,16 +110,34 @@ pub record Goes {S T : Type 0} (x : Script) (f : S → Flow T) (s : S) (e e' : E
   pub at : s' ≡ (f s).rest
 
 -- over what is lent: the step's calls are made, and the stream p stands behind it
-abbrev pub Walked : Loan → Loan → MutLoan → MutLoan → MutLoan → MutLoan → (Stream → Flow Stream) → Type 0
+abbrev pub Walked : Loan → Loan → FormatterLoan → MutLoan → MutLoan → StreamMutLoan → (Stream → Flow Stream) → Type 0
 Walked src table fmt queue out p f = Goes (script src table) f (stream_in table p) (before fmt queue out) (after fmt queue out) (stream_out table p)
 
--- a record is taken as t says; none is refusal 8
-pub record Got (t : Took) (s : Stream) (w w' : List ℕ) (k : RecordNo) (s' : Stream) : Type 0 where
-  pub ran : Refuses (on_found t.found (λ k. nothing) (not_met s)) w w'
-  pub ate : Ate t k s'
+-- the number of the record found, and one past the table where there is none
+abbrev pub number_of : Option RecordNo → RecordNo
+number_of (Some k) = k
+number_of None = no 8192
 
-abbrev pub Pumped : Loan → MutLoan → MutLoan → RecordNo → Type 0
+-- where nothing was found, that is refusal 8
+abbrev pub asked : Option RecordNo → Stream → Plan
+asked found s = on_found found (λ k. nothing) (not_met s)
+
+-- the record k was found, or there is none and it is refused
+pub record Asks (f : Option RecordNo) (s : Stream) (w w' : Formatter) (k : RecordNo) : Type 0 where
+  pub ran : Refuses (asked f s) w w'
+  pub found : k ≡ number_of f
+
+-- a record is taken as t says; none is refusal 8
+pub record Got (t : Took) (s : Stream) (w w' : Formatter) (k : RecordNo) (s' : Stream) : Type 0 where
+  pub ran : Refuses (asked t.found s) w w'
+  pub found : k ≡ number_of t.found
+  pub rest : s' ≡ t.rest
+
+abbrev pub Asked : Loan → FormatterLoan → StreamLoan → Option RecordNo → RecordNo → Type 0
+Asked table fmt p found k = Asks found (stream_here table p) fmt.entry.now fmt.exit.now k
+
+abbrev pub Pumped : Loan → FormatterLoan → StreamMutLoan → RecordNo → Type 0
 Pumped table fmt p k = Got (take_any (stream_in table p)) (stream_in table p) fmt.entry.now fmt.exit.now k (stream_out table p)
 
-abbrev pub Expected : Loan → MutLoan → MutLoan → ℕ → RecordNo → Type 0
+abbrev pub Expected : Loan → FormatterLoan → StreamMutLoan → ℕ → RecordNo → Type 0
 Expected table fmt p kind k = Got (take_if (is_byte (tree table) kind) (stream_in table p)) (stream_in table p) fmt.entry.now fmt.exit.now k (stream_out table p)

@@ -1,3 +1,2 @@
 pub mod Bools
-mod RangeLaws
 pub mod WhiteLaws

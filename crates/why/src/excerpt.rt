@@ -4,26 +4,21 @@ use std::io;
 
 // Where the line begins.
 fn line_start(source: &[u8], at: usize) -> usize {
-    let mut from: usize = 0;
-    for i in 0..at {
-        if packed::byte(source, i) == 10 {
-            from = packed::plus(i, 1);
-        }
-    }
-    from
+    packed::front(source, at)
+        .iter()
+        .rposition(|b| *b == b'\n')
+        .map_or(0, |i| i.saturating_add(1))
 }
 
 // Where it ends, before its newline.
 fn line_end(source: &[u8], at: usize) -> usize {
-    for i in at..source.len() {
-        if packed::byte(source, i) == 10 {
-            return i;
-        }
-    }
-    source.len()
+    packed::slice(source, at, source.len())
+        .iter()
+        .position(|b| *b == b'\n')
+        .map_or(source.len(), |i| at.saturating_add(i))
 }
 
-// One more byte in a row, as far as the row goes.
+// One more byte in a row, as far as the row goes. The row and its length: fixed memory, no heap.
 fn put(row: &mut [u8], n: usize, b: u8) -> usize {
     if n < row.len() {
         row[n] = b;
@@ -33,55 +28,51 @@ fn put(row: &mut [u8], n: usize, b: u8) -> usize {
 }
 
 // A byte as it is shown: of control characters only the tab reaches a terminal.
-fn shown(b: u8) -> u8 {
-    if b < 32 && b != 9 {
-        return 32;
+fn shown(b: u8) -> Option<u8> {
+    match b {
+        b'\t' => Some(b),
+        0..=31 | 127 => Some(b' '),
+        _ => Some(b),
     }
-    if b == 127 {
-        return 32;
-    }
-    b
 }
 
 // White space as wide as a byte: a tab for a tab, a space for a character, nothing for a byte that goes on with one.
-fn put_blank(row: &mut [u8], n: usize, b: u8) -> usize {
-    if 0x80 <= b && b < 0xC0 {
-        return n;
+fn blank(b: u8) -> Option<u8> {
+    match b {
+        b'\t' => Some(b),
+        0x80..=0xBF => None,
+        _ => Some(b' '),
     }
-    if b == 9 {
-        return put(row, n, 9);
-    }
-    put(row, n, 32)
 }
 
-fn put_as(row: &mut [u8], n: usize, b: u8, blank: bool) -> usize {
-    if blank {
-        return put_blank(row, n, b);
-    }
-    put(row, n, shown(b))
-}
-
-// The bytes of the source from one place to another, or white space as wide as they are: how many stand in the row then.
-fn fill(source: &[u8], from: usize, to: usize, blank: bool, row: &mut [u8]) -> usize {
+// Bytes of the source, each as it is drawn: how many stand in the row then.
+fn fill<F: Fn(u8) -> Option<u8>>(bytes: &[u8], drawn: F, row: &mut [u8]) -> usize
+    requires { F.IsAlwaysCallable drawn }
+{
     let mut n: usize = 0;
-    for i in from..to {
-        n = put_as(row, n, packed::byte(source, i), blank);
+    for byte in bytes {
+        if let Some(b) = drawn(*byte) {
+            n = put(row, n, b);
+        }
     }
     n
 }
 
 // Such a row, set in by four spaces.
-fn draw(out: &impl Print, source: &[u8], from: usize, to: usize, blank: bool) -> io::Result<()> {
+fn draw<F: Fn(u8) -> Option<u8>>(out: &impl Print, bytes: &[u8], drawn: F) -> io::Result<()>
+    requires { F.IsAlwaysCallable drawn }
+{
     let mut row = [0u8; 65600];
-    let n = fill(source, from, to, blank, &mut row);
+    let n = fill(bytes, drawn, &mut row);
     out.write_all(b"    ")?;
     out.write_all(packed::front(&row, n))
 }
 
 pub fn show(out: &impl Print, source: &[u8], at: usize) -> io::Result<()> {
     let from = line_start(source, at);
-    draw(out, source, from, line_end(source, at), false)?;
+    let line = packed::slice(source, from, line_end(source, at).saturating_sub(from));
+    draw(out, line, shown)?;
     println!(out;)?;
-    draw(out, source, from, at, true)?;
+    draw(out, packed::front(line, at.saturating_sub(from)), blank)?;
     println!(out; "^")
 }

@@ -11,13 +11,11 @@ mod excerpt;
 mod sentence;
 
 use entry::checks::opening;
-use loose::reason::is_loose;
-use meaning::answer::{Answer, Refusal};
-use reasons::why::{Why, why_at};
+use meaning::answer::Refusal;
+use reasons::why::why_at;
 use std::io;
 use std::rt::Env;
 use telling::files::{count, read, word};
-use telling::place::more;
 use telling::refusal;
 use tree::record::RecordNo;
 use tree::table::{decode, first};
@@ -53,15 +51,14 @@ fn one(
     table: &[u32],
     k: RecordNo,
 ) -> io::Result<()> {
-    let w = why_at(source, table, k);
-    match w {
-        Why::Because(r) => sentence::tell(out, name, source, table, k, r),
-        Why::Refused(r) => refused(err, source, tree, r),
+    match why_at(source, table, k) {
+        Ok(r) => sentence::tell(out, name, source, table, k, r),
+        Err(r) => refused(err, source, tree, r),
     }
 }
 
 // How many lists there are, and how many of them go over several lines.
-#[derive(Clone, Copy)]
+#[derive(Clone, Copy, Default)]
 struct Seen {
     lists: u64,
     broken: u64,
@@ -69,16 +66,9 @@ struct Seen {
 
 // One more list, which goes over several lines or not.
 fn counted(s: Seen, broken: bool) -> Seen {
-    if broken {
-        return Seen {
-            lists: more(s.lists),
-            broken: more(s.broken),
-        };
-    }
-    let before = s.broken;
     Seen {
-        lists: more(s.lists),
-        broken: before,
+        lists: s.lists.saturating_add(1),
+        broken: s.broken.saturating_add(u64::from(broken)),
     }
 }
 
@@ -93,17 +83,15 @@ fn visit(
     k: RecordNo,
     s: Seen,
 ) -> io::Result<Seen> {
-    let w = why_at(source, table, k);
-    match w {
-        Why::Because(r) => {
-            let broken = is_loose(r);
-            if broken {
+    match why_at(source, table, k) {
+        Ok(r) => {
+            if r.is_some() {
                 sentence::tell(out, name, source, table, k, r)?;
             }
-            Ok(counted(s, broken))
+            Ok(counted(s, r.is_some()))
         }
-        Why::Refused(Refusal::NoRule(_)) => Ok(s),
-        Why::Refused(r) => {
+        Err(Refusal::NoRule(_)) => Ok(s),
+        Err(r) => {
             refused(err, source, tree, r)?;
             Ok(s)
         }
@@ -119,76 +107,69 @@ fn all(
     table: &[u32],
     n: RecordNo,
 ) -> io::Result<()> {
-    let mut s = Seen {
-        lists: 0,
-        broken: 0,
-    };
+    let mut s = Seen::default();
     for i in 0..n.0 {
         s = visit(out, err, name, source, tree, table, RecordNo(i), s)?;
     }
     sentence::total(out, name, s.broken, s.lists)
 }
 
-// The node that the third argument names; `digits::NONE` where it is no number.
-fn node_number(rt: &impl Env) -> RecordNo {
+// The node that the third argument names, if it is a number.
+fn node_number(rt: &impl Env) -> Option<RecordNo> {
     let mut text = [0u8; 16];
     let len = word(rt, 3, &mut text);
-    RecordNo(digits::number(packed::front(&text, len)))
+    digits::number(packed::front(&text, len)).map(RecordNo)
 }
 
-// Of an opened script all lists, or one.
-fn why<R: Env + Print>(
-    rt: &R,
+// Of an opened script all lists, or that of one node.
+fn why(
+    out: &impl Print,
     err: &impl Print,
     name: &[u8],
     source: &[u8],
     tree: &[u8],
+    node: Option<RecordNo>,
 ) -> io::Result<()> {
     let a = opening(source, tree);
     match a {
-        Answer::Done => {
+        Ok(()) => {
             let mut words = [0u32; 32768];
             let n = decode(tree, &mut words);
             let table = first(&words, n);
-            if count(rt) == 4 {
-                one(rt, err, name, source, tree, table, node_number(rt))
-            } else {
-                all(rt, err, name, source, tree, table, n)
+            match node {
+                Some(k) => one(out, err, name, source, tree, table, k),
+                None => all(out, err, name, source, tree, table, n),
             }
         }
-        Answer::Refused(r) => refused(err, source, tree, r),
+        Err(r) => refused(err, source, tree, r),
     }
-}
-
-// Two files, and a node's number or none.
-fn is_usage(rt: &impl Env) -> bool {
-    if count(rt) == 4 {
-        return node_number(rt).0 != digits::NONE;
-    }
-    count(rt) == 3
 }
 
 fn main(rt: HostRuntime) -> io::Result<()> {
     let err = rt.stderr();
-    if !is_usage(&rt) {
+    let node = node_number(&rt);
+    // two files, and a node's number or none
+    let words = count(&rt);
+    if words != 3 && (words != 4 || node.is_none()) {
         return println!(err; "usage: why SCRIPT TREE [NODE]");
     }
     let mut script = [0u8; 65600];
     let mut list = [0u8; 131072];
     let s = read(&rt, &err, 1, &mut script)?;
     let t = read(&rt, &err, 2, &mut list)?;
-    if 131072 <= t.len {
+    if t.is_some_and(|len| 131072 <= len) {
         return println!(err; "the tree is longer than any good one");
     }
-    if s.found && t.found {
+    if let (Some(s), Some(t)) = (s, t) {
         let mut name = [0u8; 4096];
         let n = word(&rt, 1, &mut name);
         why(
             &rt,
             &err,
             packed::front(&name, n),
-            packed::front(&script, s.len),
-            packed::front(&list, t.len),
+            packed::front(&script, s),
+            packed::front(&list, t),
+            node,
         )?;
     }
     Ok(())

@@ -41,67 +41,36 @@ fn say_list(out: &impl Print, source: &[u8], table: &[u32], k: RecordNo) -> io::
 }
 
 // The whole sentence, and under it the line of the source with a caret.
-fn point(
-    out: &impl Print,
-    name: &[u8],
-    source: &[u8],
-    table: &[u32],
-    k: RecordNo,
-    at: BytePos,
-    words: &str,
-) -> io::Result<()> {
-    say_place(out, name, source, at)?;
-    say_list(out, source, table, k)?;
-    println!(out; "{words}")?;
-    excerpt::show(out, source, at.0 as usize)
-}
-
 pub fn tell(
     out: &impl Print,
     name: &[u8],
     source: &[u8],
     table: &[u32],
     k: RecordNo,
-    r: Reason,
+    r: Option<Reason>,
 ) -> io::Result<()> {
-    match r {
-        Reason::Wide(p) => point(
-            out,
-            name,
-            source,
-            table,
-            k,
+    let (at, words) = match r {
+        Some(Reason::Wide(p)) => (
             p,
             "is too wide for one line: this is the 81st of its characters, white space not counted",
         ),
-        Reason::Comment(c) => point(
-            out,
-            name,
-            source,
-            table,
-            k,
+        Some(Reason::Comment(c)) => (
             start(table, c),
             "holds a line comment, behind which nothing can stand on its line",
         ),
-        Reason::Sixth(c) => point(
-            out,
-            name,
-            source,
-            table,
-            k,
+        Some(Reason::Sixth(c)) => (
             start(table, c),
             "has more than five entries: this is the sixth",
         ),
-        Reason::Fits => point(
-            out,
-            name,
-            source,
-            table,
-            k,
+        None => (
             start(table, k),
             "stands on one line: it has at most 80 characters, white space not counted, at most five entries and no line comment",
         ),
-    }
+    };
+    say_place(out, name, source, at)?;
+    say_list(out, source, table, k)?;
+    println!(out; "{words}")?;
+    excerpt::show(out, source, at.0 as usize)
 }
 
 // How many of the lists go over several lines.

@@ -91,9 +91,6 @@ plain_dark (suc n) t i h e =
     rw next (tally_as (tally_join here rest) (omega arith) (rw add-one (sym (one_more (is_white b) (dark (take n (drop (suc i) t)))))))
 
 -- a block, as a slice of 32 bytes at i
-pub block_plain : {t : List ℕ} {i : ℕ} → PlainBlock t i → all_plain (take (i + 32 - i) (drop i t)) ≡ true
-block_plain {t} {i} p = let z : i + 32 - i ≡ 32 = omega arith in rw z p.plain
-
 pub tally_block : {t : List ℕ} {i n : ℕ} → PlainBlock t i → n ≡ dark (take (i + 32 - i) (drop i t)) → Tallied t i (i + 32) n
 tally_block {t} {i} p e = let z : i + 32 - i ≡ 32 = omega arith in tally_as (plain_dark 32 t i p.within p.plain) refl (sym (rw z at e))
 

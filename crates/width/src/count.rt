@@ -21,10 +21,8 @@ fn dark_bytes(s: &[u8]) -> u64
     ensures { result ≡ dark s.now }
 {
     let mut n: u64 = 0;
-    let mut k: usize = 0;
-    while k < s.len() {
-        n += 1 - is_white_byte(s[k]) as u64;
-        k += 1;
+    for &b in s {
+        n += 1 - is_white_byte(b) as u64;
     }
     n
 }
@@ -34,10 +32,7 @@ fn plain_block(t: &[u8], i: usize) -> bool
     requires { i ≤ length t.now }
     ensures { result ≡ true → PlainBlock t.now i }
 {
-    if t.len() - i < 32 {
-        return false;
-    }
-    plain(&t[i..i + 32])
+    32 <= t.len() - i && plain(&t[i..i + 32])
 }
 
 // Over the plain blocks at `from`, until `left` characters are found.
@@ -47,13 +42,10 @@ fn over_blocks(t: &[u8], from: usize, left: u64) -> Tally
 {
     let mut n: u64 = 0;
     let mut i = from;
-    while n < left {
-        if plain_block(t, i) {
-            n += dark_bytes(&t[i..i + 32]);
-            i += 32;
-        } else {
-            return Tally { dark: n, end: i };
-        }
+    // no `for`: a step is a block, and where the walk ends is half of what it found
+    while n < left && plain_block(t, i) {
+        n += dark_bytes(&t[i..i + 32]);
+        i += 32;
     }
     Tally { dark: n, end: i }
 }
@@ -66,15 +58,9 @@ fn over_plain(t: &[u8], from: usize, left: u64) -> Tally
     let blocks = over_blocks(t, from, left);
     let mut n = blocks.dark;
     let mut i = blocks.end;
-    while i < t.len() {
-        let b = t[i];
-        if 0x80 <= b {
-            return Tally { dark: n, end: i };
-        }
-        if left <= n {
-            return Tally { dark: n, end: i };
-        }
-        n += 1 - is_white_byte(b) as u64;
+    // no `for`: where the walk ends is half of what it found
+    while i < t.len() && t[i] < 0x80 && n < left {
+        n += 1 - is_white_byte(t[i]) as u64;
         i += 1;
     }
     Tally { dark: n, end: i }
@@ -88,13 +74,8 @@ fn over_wide(t: &[u8], from: usize, left: u64) -> Tally
 {
     let mut n: u64 = 0;
     let mut i = from;
-    while i < t.len() {
-        if t[i] < 0x80 {
-            return Tally { dark: n, end: i };
-        }
-        if left <= n {
-            return Tally { dark: n, end: i };
-        }
+    // no `for`: a step is as long as the character there
+    while i < t.len() && 0x80 <= t[i] && n < left {
         let c = char_at(t, i);
         // a sum, not a branch on the answer
         n += 1 - is_white(c.code) as u64;
@@ -111,6 +92,7 @@ pub fn count(t: &[u8], limit: u32) -> u64
     let above = limit as u64 + 1;
     let mut n: u64 = 0;
     let mut i: usize = 0;
+    // no `for`: a step is as long as the characters that a turn passes
     while i < t.len() {
         let c = char_at(t, i);
         n += 1 - is_white(c.code) as u64;

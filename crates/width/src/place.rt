@@ -12,6 +12,7 @@ pub fn place_of(t: &[u8], n: u32) -> usize
 {
     let mut left = n;
     let mut i: usize = 0;
+    // no `for`: a step is as long as the character there
     while i < t.len() {
         let c = char_at(t, i);
         if !is_white(c.code) {

@@ -1,8 +1,10 @@
 -- The state's bytes as the code reads them: the flags of comments, and the words of the queue. Assumes nothing.
 use mathlib.Core.Path.{◌≡◌, refl, sym, ap, ◌∙◌}
-use mathlib.Core.Bool.{Bool, true, false}
+use mathlib.Core.Bool.{Bool, true, false, ◌&&◌}
 use mathlib.Core.List.{List, [], ◌∷◌, ◌++◌, append_assoc, append-nil}
-use Prim.Native.Nat.{ℕ, suc, ◌+◌, ◌-◌, ◌≤◌, ◌<◌, min}
+use Rattle.std.specs.List.{list_all, range_with_len}
+use native.Mathlib.Numerals.{add-one}
+use Prim.Native.Nat.{ℕ, zero, suc, ◌+◌, ◌-◌, ◌≤◌, ◌<◌, min}
 use native.Mathlib.Omega.{arith}
 use lib.ListN.{length, set, replicate}
 use lib.Seq.{set_at}
@@ -12,26 +14,14 @@ use Rattle.lent.proofs.TabLaws.{length_tab, tab_snoc}
 use Rattle.wire.specs.Words.{word_at}
 use Rattle.wire.specs.StateBytes.{is_flag, comment_word, flags_good, line_flags, shaped}
 
--- ---- the flags of n comments, at the comment k
+-- ---- the flags of n comments from the comment k on
 
-module _ (st : List ℕ) (n k : ℕ) where
-  pub flags_more : k < n → is_flag st (comment_word k + 3) ≡ true → line_flags st (k + 1) (n - (k + 1)) ≡ line_flags st k (n - k)
-  unfolding line_flags
-  flags_more l e =
-      let p : n - k ≡ suc (n - (k + 1)) = omega arith in
-      let q : k + 1 ≡ suc k = omega arith in
-      rw (p, q, e)
-
-  pub flags_stop : k < n → is_flag st (comment_word k + 3) ≡ false → false ≡ line_flags st k (n - k)
-  unfolding line_flags
-  flags_stop l e = let p : n - k ≡ suc (n - (k + 1)) = omega arith in rw (p, e)
-
-  pub flags_end : n ≤ k → true ≡ line_flags st k (n - k)
-  unfolding line_flags
-  flags_end l = let p : n - k ≡ 0 = omega arith in rw p
-
-pub flags_all : (st : List ℕ) (n : ℕ) → line_flags st 0 (n - 0) ≡ line_flags st 0 n
-flags_all st n = let p : n - 0 ≡ n = omega arith in rw p
+pub flags_list : (st : List ℕ) (k n : ℕ) → list_all (λ (j : ℕ). is_flag st (comment_word j + 3)) (range_with_len k n) ≡ line_flags st k n
+unfolding line_flags
+flags_list st k zero = refl
+flags_list st k (suc n) =
+    ap (is_flag st (comment_word k + 3) &&◌)
+    (ap (λ (m : ℕ). list_all (λ (j : ℕ). is_flag st (comment_word j + 3)) (range_with_len m n)) (add-one k) ∙ flags_list st (suc k) n)
 
 -- ---- the shape, test by test
 

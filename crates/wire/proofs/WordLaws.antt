@@ -1,32 +1,32 @@
 -- Words in bytes: read, written, and read back. Assumes nothing.
 use mathlib.Core.Path.{◌≡◌, refl, sym, ap, ◌∙◌}
+use mathlib.Core.Bool.{Bool, true, false}
 use mathlib.Core.List.{List, [], ◌∷◌, ◌++◌, append_assoc, append-nil}
 use Prim.Native.Nat.{ℕ, zero, suc, ◌+◌, ◌-◌, ◌*◌, ◌/◌, ◌%◌, ◌≤◌, ◌<◌}
 use native.Mathlib.Nat.{add-zero}
 use native.Mathlib.Numerals.{add-one}
 use native.Mathlib.Omega.{arith}
-use lib.ListN.{length, set, take, drop, get_or, length-append, length-drop, drop_of_length-le}
-use lib.Seq.{get_or-drop, sets-eq, take_at, drop_at, drop-drop, take-suc, take_all, length-take-le}
+use lib.ListN.{length, take, drop, get_or, length-append, length-drop, drop_of_length-le}
+use lib.Seq.{get_or-drop, take_at, drop_at, drop-drop, take-suc, take_all, length-take-le}
+use Rattle.std.specs.Int.{w32, from_bool, from_le_bytes, to_le_bytes}
 use Rattle.tree.specs.Records.{four}
+use Rattle.lent.specs.View.{flag_of}
 use Rattle.wire.specs.Words.{word_at, word_bytes, in_bytes}
 use Rattle.wire.specs.CodeState.{Wrote}
 
 -- ---- one word
 
-pub word_is : (s : List ℕ) (i : ℕ) {a b c d : ℕ} → a ≡ get_or s (i * 4) 0 → b ≡ get_or s (i * 4 + 1) 0 → c ≡ get_or s (i * 4 + 2) 0 → d ≡ get_or s (i * 4 + 3) 0
-    → a + b * 0x100 + c * 0x10000 + d * 0x1000000 ≡ word_at s i
+pub word_is : (s : List ℕ) (i : ℕ) {n : ℕ} → n ≡ from_le_bytes w32 (get_or s (i * 4) 0 ∷ get_or s (i * 4 + 1) 0 ∷ get_or s (i * 4 + 2) 0 ∷ get_or s (i * 4 + 3) 0 ∷ []) → n ≡ word_at s i
 unfolding word_at four
-word_is s i e f g h = simp (get_or-drop, add-zero) (rw (e, f, g, h))
+word_is s i e = simp (get_or-drop, add-zero) (omega (arith, e))
 
-pub put_is : (l : List ℕ) (i w : ℕ) → i * 4 + 4 ≤ length l
-    → set (set (set (set l (i * 4) (w % 0x100)) (i * 4 + 1) (w / 0x100 % 0x100)) (i * 4 + 2) (w / 0x10000 % 0x100)) (i * 4 + 3) (w / 0x1000000 % 0x100)
-    ≡ take (i * 4) l ++ word_bytes w ++ drop (i * 4 + 4) l
+-- the bytes from i * 4 on, as four are copied there
+pub put_is : (l : List ℕ) (i w : ℕ) {v : List ℕ} → v ≡ to_le_bytes w32 w
+    → take (i * 4) l ++ (v ++ drop (i * 4 + 4 - i * 4) (drop (i * 4) l)) ≡ take (i * 4) l ++ word_bytes w ++ drop (i * 4 + 4) l
 unfolding word_bytes
-put_is l i w h =
-    let e₁ : i * 4 + 1 ≡ suc (i * 4) = omega arith in
-    let e₂ : i * 4 + 2 ≡ suc (suc (i * 4)) = omega arith in
-    let e₃ : i * 4 + 3 ≡ suc (suc (suc (i * 4))) = omega arith in
-    rw (e₁, e₂, e₃) (sets-eq (w % 0x100 ∷ w / 0x100 % 0x100 ∷ w / 0x10000 % 0x100 ∷ w / 0x1000000 % 0x100 ∷ []) l (i * 4) h)
+put_is l i w e =
+    let k : i * 4 + 4 - i * 4 ≡ 4 = omega arith in
+    rw (k, drop-drop 4 (i * 4) l, e) (sym (append_assoc (take (i * 4) l) (to_le_bytes w32 w) (drop (i * 4 + 4) l)))
 
 -- ---- words one behind the other
 
@@ -128,5 +128,11 @@ module _ (st y head queue : List ℕ) (size : length st ≡ 4128) (wy : Wrote he
         fit = fit_both head queue wy.fit wz.fit;
       }
 
-pub flags_in : {x y z x' y' z' a b e g : ℕ} {queue bs : List ℕ} → x ≡ x' → y ≡ y' → z ≡ z' → Wrote (a ∷ b ∷ x ∷ y ∷ e ∷ z ∷ g ∷ 0 ∷ queue) bs → Wrote (a ∷ b ∷ x' ∷ y' ∷ e ∷ z' ∷ g ∷ 0 ∷ queue) bs
-flags_in p q r w = rw (p, q, r) at w
+-- a flag's number is its word
+flag_byte : (b : Bool) → from_bool b ≡ flag_of b
+flag_byte false = refl
+flag_byte true = refl
+
+pub flags_in : {x y e z e' a b g : ℕ} (p q r : Bool) {queue bs : List ℕ} → x ≡ from_bool p → y ≡ from_bool q → e ≡ e' → z ≡ from_bool r
+    → Wrote (a ∷ b ∷ x ∷ y ∷ e ∷ z ∷ g ∷ 0 ∷ queue) bs → Wrote (a ∷ b ∷ flag_of p ∷ flag_of q ∷ e' ∷ flag_of r ∷ g ∷ 0 ∷ queue) bs
+flags_in p q r i j k l w = rw (i ∙ flag_byte p, j ∙ flag_byte q, k, l ∙ flag_byte r) at w

@@ -1,5 +1,5 @@
 -- Worked states: every word in its place, and the shape that is asked, flag by flag. Assumes nothing.
-use Rattle.std.specs.Prelude.{ℕ, ◌-◌, ◌*◌, Bool, true, false, not, ◌&&◌, List, [], ◌∷◌, ◌++◌, length, take, drop, replicate, eqb}
+use Rattle.std.specs.Prelude.{ℕ, ◌-◌, ◌*◌, Bool, true, false, not, ◌&&◌, List, [], ◌∷◌, ◌++◌, take, drop, replicate, eqb}
 use Rattle.tree.specs.Records.{span_of}
 use Rattle.meaning.specs.State.{Comment, State}
 use Rattle.meaning.specs.Cases.{same}

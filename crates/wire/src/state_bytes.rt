@@ -1,6 +1,6 @@
 // The engine's state in bytes: the shape that is asked of it, read and written.
-ghost use Rattle.std.specs.Prelude.{◌≡◌, ◌<◌, ◌≤◌, min, length, set};
-ghost use Rattle.lent.specs.View.{tab, flag_of};
+ghost use Rattle.std.specs.Prelude.{◌≡◌, ◌<◌, ◌≤◌, min, length};
+ghost use Rattle.lent.specs.View.{tab};
 ghost use Rattle.wire.specs.Words.{word_at};
 ghost use Rattle.wire.specs.StateBytes.{is_flag, flag_at, flags_good, line_flags, shaped};
 ghost use Rattle.wire.specs.CodeState.{code_now, code_state, code_words, Wrote};
@@ -35,8 +35,7 @@ fn waiting(state: &[u8]) -> usize
     requires { length state.now ≡ 4128 }
     ensures { (result ≡ min (word_at state.now 6) 256) × (result ≤ 256) }
 {
-    let n = word(state, 6) as usize;
-    if n < 256 { n } else { 256 }
+    (word(state, 6) as usize).min(256)
 }
 
 // Do the first n comments say whether they are line comments by 0 or 1?
@@ -44,15 +43,7 @@ fn line_flags(state: &[u8], n: usize) -> bool
     requires { (length state.now ≡ 4128) × (n ≤ 256) }
     ensures { result ≡ line_flags state.now 0 n }
 {
-    let mut k: usize = 0;
-    while k < n {
-        if is_flag(state, FIRST + k * 4 + 3) {
-            k += 1;
-        } else {
-            return false;
-        }
-    }
-    true
+    (0..n).all(|k| is_flag(state, FIRST + k * 4 + 3))
 }
 
 // Are the state's own three flags 0 or 1?
@@ -60,37 +51,17 @@ fn flags(state: &[u8]) -> bool
     requires { length state.now ≡ 4128 }
     ensures { result ≡ flags_good state.now }
 {
-    if is_flag(state, 2) {
-        if is_flag(state, 3) {
-            return is_flag(state, 5);
-        }
-        return false;
-    }
-    false
+    is_flag(state, 2) && is_flag(state, 3) && is_flag(state, 5)
 }
 
 // Has a lent state the shape that is asked of it, beside a buffer of cap bytes?
 pub fn shaped(state: &[u8], cap: usize) -> bool
     ensures { result ≡ shaped state.now cap }
 {
-    if state.len() != SIZE {
+    if state.len() != SIZE || 0xffff_ffff < cap {
         return false;
     }
-    if 0xffffffff < cap {
-        return false;
-    }
-    if flags(state) {
-        return line_flags(state, waiting(state));
-    }
-    false
-}
-
-// One word of the queue.
-fn store(queue: &mut [u32; 1024], i: usize, w: u32)
-    requires { i < 1024 }
-    ensures { queue.new ≡ set queue.old i w }
-{
-    queue[i] = w;
+    flags(state) && line_flags(state, waiting(state))
 }
 
 // The words of all 256 comments.
@@ -99,10 +70,8 @@ pub fn queue_in(state: &[u8]) -> [u32; 1024]
     ensures { result ≡ tab (word_at state.now) 8 1024 }
 {
     let mut queue = [0u32; 1024];
-    let mut i: usize = 0;
-    while i < 1024 {
-        store(&mut queue, i, word(state, FIRST + i));
-        i += 1;
+    for i in 0..1024 {
+        queue[i] = word(state, FIRST + i);
     }
     queue
 }
@@ -111,7 +80,7 @@ pub fn queue_in(state: &[u8]) -> [u32; 1024]
 fn at_most_255(w: u32) -> u8
     ensures { result ≡ min w 255 }
 {
-    if w < 255 { w as u8 } else { 255 }
+    u8::try_from(w).unwrap_or(255)
 }
 
 // The scalars that the engine is handed; the length is a word.
@@ -135,18 +104,10 @@ pub fn read_state(state: &[u8]) -> State
     requires { length state.now ≡ 4128 }
     ensures { (result ≡ code_state state.now) × (result.now.len < 4294967296) }
 {
-    let now = read_now(state);
     State {
-        now,
+        now: read_now(state),
         queue: queue_in(state),
     }
-}
-
-// A flag's word.
-fn as_word(set: bool) -> u32
-    ensures { result ≡ flag_of set }
-{
-    if set { 1 } else { 0 }
 }
 
 // The state whole, over the bytes that were lent.
@@ -157,10 +118,10 @@ pub fn write_state(state: &mut [u8], n: Small, queue: &[u32; 1024])
     let head = [
         n.len as u32,
         n.lines,
-        as_word(n.use_lines),
-        as_word(n.ws),
-        n.indent as u32,
-        as_word(n.finished),
+        u32::from(n.use_lines),
+        u32::from(n.ws),
+        u32::from(n.indent),
+        u32::from(n.finished),
         n.count,
         0,
     ];

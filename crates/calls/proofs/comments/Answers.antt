@@ -6,4 +6,4 @@ use Rattle.calls.proofs.comments.Goals as goal
 pub returns : goal.returns
 returns c =
     made_ready c.stops.ensures refl
-    (by_comments c.way_of.ensures c.release.ensures)
+    (by_comments c.from.ensures c.release.ensures)

@@ -12,14 +12,14 @@ returns-then-stops c =
 pub returns-then-process_comments : goal.returns-then-process_comments
 returns-then-process_comments c =
     made_ready c.stops.ensures refl
-    (prefix_full _ c.args.out.now (goes c.stops.ensures.told c.if-stops.false) c.lines-before.ensures c.process_comments.ensures c.if-process_comments.true)
+    (prefix_full _ c.args.out.now (goes c.stops.ensures.told c.if-stops.false) refl c.process_comments.ensures c.if-process_comments.true)
 
 pub returns-then-stopped : goal.returns-then-stopped
 returns-then-stopped c =
     made_ready c.stops.ensures refl
-    (prefix_past _ c.args.out.now (goes c.stops.ensures.told c.if-stops.false) c.lines-before.ensures c.process_comments.ensures c.if-process_comments.false c.release_waiting.ensures (sym c.stopped.ensures ∙ c.if-stopped.true) c.count-waiting.ensures c.collected.ensures)
+    (prefix_past _ c.args.out.now (goes c.stops.ensures.told c.if-stops.false) refl c.process_comments.ensures c.if-process_comments.false c.release_waiting.ensures (sym c.stopped.ensures ∙ c.if-stopped.true) refl c.collected.ensures)
 
 pub returns : goal.returns
 returns c =
     made_ready c.stops.ensures refl
-    (prefix_done _ c.args.out.now (goes c.stops.ensures.told c.if-stops.false) c.lines-before.ensures c.process_comments.ensures c.if-process_comments.false c.release_waiting.ensures (goes c.stopped.ensures c.if-stopped.false) (rw c.lines.ensures) c.set_use_lines.ensures)
+    (prefix_done _ c.args.out.now (goes c.stops.ensures.told c.if-stops.false) refl c.process_comments.ensures c.if-process_comments.false c.release_waiting.ensures (goes c.stopped.ensures c.if-stopped.false) refl refl)

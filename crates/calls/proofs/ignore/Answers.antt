@@ -13,4 +13,4 @@ returns-then-stops_for c =
 pub returns : goal.returns
 returns c =
     made_present c.stops_for.ensures refl
-    (ignore_is (script_of c.args.src.now c.args.table.now) c.args.k c.args.out.now _ (goes c.stops_for.ensures.told c.if-stops_for.false) c.behind.ensures c.lines.ensures c.process_comments.ensures)
+    (ignore_is (script_of c.args.src.now c.args.table.now) c.args.k c.args.out.now _ (goes c.stops_for.ensures.told c.if-stops_for.false) c.behind.ensures refl c.process_comments.ensures)

@@ -12,19 +12,19 @@ returns-then-stops c =
 pub returns-then-i-b-gt64 : goal.returns-then-i-b-gt64
 returns-then-i-b-gt64 c =
     made_ready c.stops.ensures refl
-    (indent_over c.args.queue.now (goes c.stops.ensures.told c.if-stops.false) c.if-b-lt128.true (rw c.indent-i.ensures at c.if-i-b-gt64.true) (rw c.indent-i.ensures at c.refused.ensures))
+    (indent_over c.args.queue.now (goes c.stops.ensures.told c.if-stops.false) c.if-b-lt128.true c.if-i-b-gt64.true c.refused.ensures)
 
 pub returns-then-b-lt128 : goal.returns-then-b-lt128
 returns-then-b-lt128 c =
     made_ready c.stops.ensures refl
-    (indent_up c.args.queue.now (goes c.stops.ensures.told c.if-stops.false) c.if-b-lt128.true (rw c.indent-i.ensures at c.if-i-b-gt64.false) (rw c.indent-i.ensures at c.set_indent.ensures))
+    (indent_up c.args.queue.now (goes c.stops.ensures.told c.if-stops.false) c.if-b-lt128.true c.if-i-b-gt64.false refl)
 
 pub returns-then-i-b : goal.returns-then-i-b
 returns-then-i-b c =
     made_ready c.stops.ensures refl
-    (indent_under c.args.queue.now (goes c.stops.ensures.told c.if-stops.false) c.if-b-lt128.false (rw c.indent-i.ensures at c.if-i-b.true) (rw c.indent-i.ensures at c.refused-then-i-b.ensures))
+    (indent_under c.args.queue.now (goes c.stops.ensures.told c.if-stops.false) c.if-b-lt128.false c.if-i-b.true c.refused-then-i-b.ensures)
 
 pub returns : goal.returns
 returns c =
     made_ready c.stops.ensures refl
-    (indent_down c.args.queue.now (goes c.stops.ensures.told c.if-stops.false) c.if-b-lt128.false (rw c.indent-i.ensures at c.if-i-b.false) (rw c.indent-i.ensures at c.set_indent-2.ensures))
+    (indent_down c.args.queue.now (goes c.stops.ensures.told c.if-stops.false) c.if-b-lt128.false c.if-i-b.false refl)

@@ -9,12 +9,12 @@ returns-then-n-eq0 c =
     made_ready c.stops.ensures refl
     (nl_nothing c.args.queue.now c.if-n-eq0.true)
 
-pub returns-then-stopped : goal.returns-then-stopped
-returns-then-stopped c =
+pub returns-else-not-stopped : goal.returns-else-not-stopped
+returns-else-not-stopped c =
     made_ready c.stops.ensures refl
-    (by_stopped (by_nl _ _ c.if-n-eq0.false) c.release.ensures (sym c.stopped.ensures ∙ c.if-stopped.true))
+    (by_stopped (by_nl _ _ c.if-n-eq0.false) c.release.ensures (sym c.stopped.ensures ∙ c.if-not-stopped.false))
 
-pub returns : goal.returns
-returns c =
+pub returns-then-not-stopped : goal.returns-then-not-stopped
+returns-then-not-stopped c =
     made_ready c.stops.ensures refl
-    (by_open (by_nl _ _ c.if-n-eq0.false) c.release.ensures (goes c.stopped.ensures c.if-stopped.false) (rw (c.set_lines.ensures, c.or_else.ensures, c.lines.ensures)))
+    (by_open (by_nl _ _ c.if-n-eq0.false) c.release.ensures (goes c.stopped.ensures c.if-not-stopped.true) (rw (c.set_lines.ensures, c.or_else.ensures)))

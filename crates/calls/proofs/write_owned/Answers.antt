@@ -14,19 +14,16 @@ pub returns-then-passes : goal.returns-then-passes
 returns-then-passes c =
     made_present c.stops_for.ensures refl
     (owned_past (script_of c.args.src.now c.args.table.now) c.args.k c.due-gap.result _ c.args.queue.now c.args.out.now _ _ (goes c.stops_for.ensures.told c.if-stops_for.false) c.node.ensures c.text-t.ensures c.due-gap.ensures
-    (rw c.len-at.ensures at (sym c.passes.ensures.0 ∙ c.if-passes.true)) (rw c.len-at.ensures at c.refused.ensures))
+    (sym c.passes.ensures.0 ∙ c.if-passes.true) c.refused.ensures)
 
 pub returns-then-process_comments : goal.returns-then-process_comments
 returns-then-process_comments c =
     made_present c.stops_for.ensures refl
     (owned_full (script_of c.args.src.now c.args.table.now) c.args.k c.due-gap.result _ c.args.queue.now c.args.out.now _ _ (goes c.stops_for.ensures.told c.if-stops_for.false) c.node.ensures c.text-t.ensures c.due-gap.ensures
-    c.behind.ensures c.process_comments.ensures (rw c.len-at.ensures at (sym c.passes.ensures.0 ∙ c.if-passes.false)) c.if-process_comments.true)
-
-pub lay-to-requires : goal.lay-to-requires
-lay-to-requires c = c.passes.ensures.1 c.if-passes.false
+    c.behind.ensures c.process_comments.ensures (sym c.passes.ensures.0 ∙ c.if-passes.false) c.if-process_comments.true)
 
 pub returns : goal.returns
 returns c =
     made_present c.stops_for.ensures refl
     (owned_done (script_of c.args.src.now c.args.table.now) c.args.k c.due-gap.result _ c.args.queue.now c.args.out.now _ _ (goes c.stops_for.ensures.told c.if-stops_for.false) c.node.ensures c.text-t.ensures c.due-gap.ensures
-    c.behind.ensures c.process_comments.ensures (rw c.len-at.ensures at (sym c.passes.ensures.0 ∙ c.if-passes.false)) c.if-process_comments.false (rw c.len-at.ensures at c.lay-to.ensures) c.written.ensures)
+    c.behind.ensures c.process_comments.ensures (sym c.passes.ensures.0 ∙ c.if-passes.false) c.if-process_comments.false c.lay-to.ensures c.written.ensures)

@@ -13,20 +13,17 @@ returns-then-stops_for c =
 pub returns-then-passes : goal.returns-then-passes
 returns-then-passes c =
     made_present c.stops_for.ensures refl
-    (raw_past (script_of c.args.src.now c.args.table.now) c.args.k c.no_gap-gap.result _ c.args.queue.now c.args.out.now _ _ (goes c.stops_for.ensures.told c.if-stops_for.false) c.node.ensures c.text-t.ensures c.no_gap-gap.ensures
-    (rw c.len-at.ensures at (sym c.passes.ensures.0 ∙ c.if-passes.true)) (rw c.len-at.ensures at c.refused.ensures))
+    (raw_past (script_of c.args.src.now c.args.table.now) c.args.k (record { lines = 0; spaces = 0 }) _ c.args.queue.now c.args.out.now _ _ (goes c.stops_for.ensures.told c.if-stops_for.false) c.node.ensures c.text-t.ensures refl
+    (sym c.passes.ensures.0 ∙ c.if-passes.true) c.refused.ensures)
 
 pub returns-then-process_comments : goal.returns-then-process_comments
 returns-then-process_comments c =
     made_present c.stops_for.ensures refl
-    (raw_full (script_of c.args.src.now c.args.table.now) c.args.k c.no_gap-gap.result _ c.args.queue.now c.args.out.now _ _ (goes c.stops_for.ensures.told c.if-stops_for.false) c.node.ensures c.text-t.ensures c.no_gap-gap.ensures
-    c.behind.ensures c.lines.ensures c.process_comments.ensures (rw c.len-at.ensures at (sym c.passes.ensures.0 ∙ c.if-passes.false)) c.if-process_comments.true)
-
-pub lay-to-requires : goal.lay-to-requires
-lay-to-requires c = c.passes.ensures.1 c.if-passes.false
+    (raw_full (script_of c.args.src.now c.args.table.now) c.args.k (record { lines = 0; spaces = 0 }) _ c.args.queue.now c.args.out.now _ _ (goes c.stops_for.ensures.told c.if-stops_for.false) c.node.ensures c.text-t.ensures refl
+    c.behind.ensures refl c.process_comments.ensures (sym c.passes.ensures.0 ∙ c.if-passes.false) c.if-process_comments.true)
 
 pub returns : goal.returns
 returns c =
     made_present c.stops_for.ensures refl
-    (raw_done (script_of c.args.src.now c.args.table.now) c.args.k c.no_gap-gap.result _ c.args.queue.now c.args.out.now _ _ (goes c.stops_for.ensures.told c.if-stops_for.false) c.node.ensures c.text-t.ensures c.no_gap-gap.ensures
-    c.behind.ensures c.lines.ensures c.process_comments.ensures (rw c.len-at.ensures at (sym c.passes.ensures.0 ∙ c.if-passes.false)) c.if-process_comments.false (rw c.len-at.ensures at c.lay-to.ensures) c.set_len.ensures)
+    (raw_done (script_of c.args.src.now c.args.table.now) c.args.k (record { lines = 0; spaces = 0 }) _ c.args.queue.now c.args.out.now _ _ (goes c.stops_for.ensures.told c.if-stops_for.false) c.node.ensures c.text-t.ensures refl
+    c.behind.ensures refl c.process_comments.ensures (sym c.passes.ensures.0 ∙ c.if-passes.false) c.if-process_comments.false c.lay-to.ensures refl)

@@ -1,5 +1,4 @@
 -- `bench::history::replay` meets its contract. The invariant: from here on is as much as from the start. Assumes nothing.
-use Prim.Native.Nat.{◌-◌}
 use Rattle.bench.proofs.HistoryLaws.{few_bytes, going_end, going_more, going_none, some_bytes}
 use Rattle.lent.proofs.MadeLaws.{keeps}
 use native.Mathlib.Omega.{arith}

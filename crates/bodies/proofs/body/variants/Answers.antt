@@ -1,5 +1,5 @@
 -- `bodies::body::variants` meets its contract. Assumes nothing.
-use Rattle.steps.proofs.Rules.{length, byte_of, facts_of, tree_of, is, parse, ◌▹◌, steady, pumped, kept_length}
+use Rattle.steps.proofs.Rules.{byte_of, facts_of, tree_of, parse, ◌▹◌, steady, pumped, kept_length}
 use Rattle.steps.proofs.Rules.{none_seen, next_seen, seen_less, all_seen, last_done}
 use Rattle.bodies.specs.Body.{lined, variant, variants}
 use Rattle.bodies.proofs.{BodyLaws.lines_take, BodyLaws.one_line}

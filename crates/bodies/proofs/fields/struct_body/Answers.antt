@@ -1,5 +1,5 @@
 -- `bodies::fields::struct_body` meets its contract. Assumes nothing.
-use Rattle.steps.proofs.Rules.{byte_of, facts_of, tree_of, is, ◌▹◌, steady, pumped, parsed, none_seen}
+use Rattle.steps.proofs.Rules.{byte_of, facts_of, tree_of, ◌▹◌, steady, pumped, parsed, none_seen}
 use Rattle.steps.proofs.Rules.{next_seen, seen_less, all_seen, last_done, keeps}
 use Rattle.bodies.specs.Body.{field, lined, struct_body}
 use Rattle.bodies.proofs.{BodyLaws.lines_take, BodyLaws.one_line}

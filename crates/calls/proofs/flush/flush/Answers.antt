@@ -1,16 +1,18 @@
 -- `calls::flush::flush` meets its contract. Assumes nothing.
 use Rattle.text.proofs.Base.{◌∙◌, sym}
 use Rattle.lent.specs.Run.{flushed_run}
+use Rattle.calls.proofs.flush.flush.Goals.{else-preserve-via-then-preserve+else-not-breaking, else-preserve-via-else-preserve}
 use Rattle.calls.proofs.flush.flush.Goals as goal
 
-pub returns-then-breaking : goal.returns-then-breaking
+pub returns-then-not-breaking : goal.returns-then-not-breaking
 unfolding flushed_run
-returns-then-breaking c = c.clear.ensures ∙ rw (c.if-preserve.true, sym c.breaking.ensures ∙ c.if-breaking.true)
+returns-then-not-breaking c = rw (c.if-preserve.true, sym c.breaking.ensures ∙ c.if-not-breaking.true)
 
-pub returns-then-preserve : goal.returns-then-preserve
+pub returns-else-preserve : goal.returns-else-preserve
 unfolding flushed_run
-returns-then-preserve c = c.set_ws.ensures ∙ rw (c.if-preserve.true, sym c.breaking.ensures ∙ c.if-breaking.false)
-
-pub returns : goal.returns
-unfolding flushed_run
-returns c = c.clear-2.ensures ∙ rw c.if-preserve.false
+returns-else-preserve c =
+    c.clear.ensures
+    ∙ elim c.else-preserve.branch [
+      | else-preserve-via-then-preserve+else-not-breaking w ↦ rw (w.if-preserve.true, sym w.breaking.ensures ∙ w.if-not-breaking.false)
+      | else-preserve-via-else-preserve w ↦ rw w.if-preserve.false
+    ]

@@ -1,17 +1,21 @@
 -- `encoding::utf8::in_range` meets its contract. Assumes nothing.
 use Rattle.encoding.proofs.RowLaws.{all_none, all_one}
 use Rattle.encoding.specs.Utf8.{◌⋯◌}
-use borrow.Author.Tests.{le-leb, lt-leb}
+use borrow.Author.Tests.{le-ltb}
+use mathlib.Core.Bool.{false≢true}
 use mathlib.Core.List.{[]}
 use mathlib.Core.Path.{◌∙◌, sym}
-use native.Mathlib.Omega.{arith}
 use Rattle.encoding.proofs.utf8.in_range.Goals as goal
+use Rattle.encoding.proofs.utf8.in_range.Goals.{then-i-s, else-i-s}
 
-pub returns-then-lo-b : goal.returns-then-lo-b
-returns-then-lo-b c = sym (all_one (c.args.lo ⋯ c.args.hi) c.args.s.now c.args.i (omega arith) ∙ rw (le-leb _ _ c.if-lo-b.true))
+pub returns-then-lo-s : goal.returns-then-lo-s
+returns-then-lo-s c = elim c.if-i-s.branch [
+  | then-i-s w ↦ sym (all_one (c.args.lo ⋯ c.args.hi) c.args.s.now c.args.i w.if-i-s.true ∙ rw (sym w.value-is ∙ c.if-lo-s.true))
+  | else-i-s w ↦ absurd (false≢true (sym (w.value-is ∙ le-ltb _ _ w.if-i-s.false) ∙ c.if-lo-s.true))
+]
 
-pub returns-else-lo-b : goal.returns-else-lo-b
-returns-else-lo-b c = sym (all_one (c.args.lo ⋯ c.args.hi) c.args.s.now c.args.i (omega arith) ∙ rw (lt-leb _ _ c.if-lo-b.false))
-
-pub returns-else-i-s : goal.returns-else-i-s
-returns-else-i-s c = sym (all_none (c.args.lo ⋯ c.args.hi) [] c.args.s.now c.args.i c.if-i-s.false)
+pub returns-else-lo-s : goal.returns-else-lo-s
+returns-else-lo-s c = elim c.if-i-s.branch [
+  | then-i-s w ↦ c.if-lo-s.false ∙ sym (all_one (c.args.lo ⋯ c.args.hi) c.args.s.now c.args.i w.if-i-s.true ∙ rw (sym w.value-is ∙ c.if-lo-s.false))
+  | else-i-s w ↦ c.if-lo-s.false ∙ sym (all_none (c.args.lo ⋯ c.args.hi) [] c.args.s.now c.args.i w.if-i-s.false)
+]

@@ -4,16 +4,16 @@ use borrow.Author.Tests.{le-ltb, lt-ltb}
 use mathlib.Core.Bool.{Bool, cond}
 use mathlib.Core.Path.{◌∙◌, ap, sym}
 use Rattle.encoding.proofs.utf8.two.Goals as goal
-
-pub returns-then-s-i-lt194 : goal.returns-then-s-i-lt194
-returns-then-s-i-lt194 c = sym (rw (lt-ltb _ _ c.if-s-i-lt194.true) at (char_two c.requires))
+use Rattle.encoding.proofs.utf8.two.Goals.{else-s-i-ge194-via-then-s-i-ge194+else-in_range, else-s-i-ge194-via-else-s-i-ge194}
 
 pub returns-then-in_range : goal.returns-then-in_range
 returns-then-in_range c =
     ap (λ (t : Bool). cond t 2 0) (sym c.if-in_range.true ∙ c.in_range.ensures)
-    ∙ sym (rw (le-ltb _ _ c.if-s-i-lt194.false) at (char_two c.requires))
+    ∙ sym (rw (le-ltb _ _ c.if-s-i-ge194.true) at (char_two c.requires))
 
-pub returns-else-in_range : goal.returns-else-in_range
-returns-else-in_range c =
-    ap (λ (t : Bool). cond t 2 0) (sym c.if-in_range.false ∙ c.in_range.ensures)
-    ∙ sym (rw (le-ltb _ _ c.if-s-i-lt194.false) at (char_two c.requires))
+pub returns-else-s-i-ge194 : goal.returns-else-s-i-ge194
+returns-else-s-i-ge194 c = elim c.else-s-i-ge194.branch [
+  | else-s-i-ge194-via-then-s-i-ge194+else-in_range w ↦ ap (λ (t : Bool). cond t 2 0) (sym w.if-in_range.false ∙ w.in_range.ensures)
+      ∙ sym (rw (le-ltb _ _ w.if-s-i-ge194.true) at (char_two c.requires))
+  | else-s-i-ge194-via-else-s-i-ge194 w ↦ sym (rw (lt-ltb _ _ w.if-s-i-ge194.false) at (char_two c.requires))
+]

@@ -1,10 +1,7 @@
-use Rattle.text.proofs.Base.{◌+◌, ◌-◌, ◌≤◌, ◌≡◌}
+use Rattle.text.proofs.Base.{◌+◌, ◌-◌, ◌≡◌}
 use Rattle.meaning.specs.Lent.{any_outside}
 use Rattle.lent.specs.View.{queue_of}
 use Rattle.entry.proofs.checks.any_outside.Given as goal
 
 abbrev pub invariant-loop-i : goal.invariant-loop-i
-invariant-loop-i l = (l.i ≤ l.count) × (any_outside l.src (queue_of l.queue (l.head + l.i) (l.count - l.i)) ≡ any_outside l.src (queue_of l.queue l.head l.count))
-
-abbrev pub decreases-loop-i : goal.decreases-loop-i
-decreases-loop-i l = l.count - l.i
+invariant-loop-i l = any_outside l.src (queue_of l.queue (l.head + l.i) (l.count - l.i)) ≡ any_outside l.src (queue_of l.queue l.head l.count)

@@ -7,21 +7,21 @@ use Rattle.entry.proofs.checks.lent.Goals as goal
 pub returns-then-stopped : goal.returns-then-stopped
 returns-then-stopped c = lent_stopped _ _ _ _ (sym c.stopped.ensures ∙ c.if-stopped.true)
 
-pub returns-then-cap-len : goal.returns-then-cap-len
-returns-then-cap-len c = lent_past c.args.src.now c.args.queue.now c.args.cap _ (goes c.stopped.ensures c.if-stopped.false) c.len.ensures c.if-cap-len.true c.len-then-cap-len.ensures c.refused.ensures
+pub returns-then-cap-fmt : goal.returns-then-cap-fmt
+returns-then-cap-fmt c = lent_past c.args.src.now c.args.queue.now c.args.cap _ (goes c.stopped.ensures c.if-stopped.false) c.if-cap-fmt.true c.refused.ensures
 
-pub returns-then-count-gt256 : goal.returns-then-count-gt256
-returns-then-count-gt256 c = lent_many c.args.src.now c.args.queue.now c.args.cap _ (goes c.stopped.ensures c.if-stopped.false) c.len.ensures c.if-cap-len.false c.count.ensures c.if-count-gt256.true c.refused-then-count-gt256.ensures
+pub returns-then-fmt-gt256 : goal.returns-then-fmt-gt256
+returns-then-fmt-gt256 c = lent_many c.args.src.now c.args.queue.now c.args.cap _ (goes c.stopped.ensures c.if-stopped.false) c.if-cap-fmt.false c.if-fmt-gt256.true c.refused-then-fmt-gt256.ensures
 
 pub returns-then-any_outside : goal.returns-then-any_outside
-returns-then-any_outside c = lent_outside c.args.src.now c.args.queue.now c.args.cap _ (goes c.stopped.ensures c.if-stopped.false) c.len.ensures c.if-cap-len.false c.count.ensures c.if-count-gt256.false c.head.ensures c.count-2.ensures c.any_outside.ensures c.if-any_outside.true c.refused-then-any_outside.ensures
+returns-then-any_outside c = lent_outside c.args.src.now c.args.queue.now c.args.cap _ (goes c.stopped.ensures c.if-stopped.false) c.if-cap-fmt.false c.if-fmt-gt256.false c.any_outside.ensures c.if-any_outside.true c.refused-then-any_outside.ensures
 
-pub returns-then-indent-gt64 : goal.returns-then-indent-gt64
-returns-then-indent-gt64 c =
-    lent_deep c.args.src.now c.args.queue.now c.args.cap _ (goes c.stopped.ensures c.if-stopped.false) c.len.ensures c.if-cap-len.false c.count.ensures c.if-count-gt256.false c.head.ensures c.count-2.ensures c.any_outside.ensures
-    c.if-any_outside.false c.indent.ensures c.if-indent-gt64.true c.indent-then-indent-gt64.ensures c.refused-then-indent-gt64.ensures
+pub returns-then-fmt-gt64 : goal.returns-then-fmt-gt64
+returns-then-fmt-gt64 c =
+    lent_deep c.args.src.now c.args.queue.now c.args.cap _ (goes c.stopped.ensures c.if-stopped.false) c.if-cap-fmt.false c.if-fmt-gt256.false c.any_outside.ensures
+    c.if-any_outside.false c.if-fmt-gt64.true c.refused-then-fmt-gt64.ensures
 
-pub returns-else-indent-gt64 : goal.returns-else-indent-gt64
-returns-else-indent-gt64 c =
-    lent_good c.args.src.now c.args.queue.now c.args.cap _ (goes c.stopped.ensures c.if-stopped.false) c.len.ensures c.if-cap-len.false c.count.ensures c.if-count-gt256.false c.head.ensures c.count-2.ensures c.any_outside.ensures
-    c.if-any_outside.false c.indent.ensures c.if-indent-gt64.false
+pub returns-else-fmt-gt64 : goal.returns-else-fmt-gt64
+returns-else-fmt-gt64 c =
+    lent_good c.args.src.now c.args.queue.now c.args.cap _ (goes c.stopped.ensures c.if-stopped.false) c.if-cap-fmt.false c.if-fmt-gt256.false c.any_outside.ensures
+    c.if-any_outside.false c.if-fmt-gt64.false

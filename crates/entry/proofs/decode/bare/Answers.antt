@@ -1,20 +1,20 @@
 -- `entry::decode::bare` meets its contract. Assumes nothing.
+use Rattle.text.proofs.Base.{◌≡◌, arith}
 use Rattle.meaning.specs.CallRecord as by-record
 use Rattle.entry.proofs.{DecodeLaws.bare_none}
 use Rattle.entry.proofs.decode.bare.Goals as goal
 
-pub returns-then-kind-eq8 : goal.returns-then-kind-eq8
+pub returns-in-8 : goal.returns-in-8
 unfolding by-record.decode
-returns-then-kind-eq8 c = rw c.if-kind-eq8.true
+returns-in-8 c = let e : c.args.kind ≡ 8 = omega arith in rw e
 
-pub returns-then-kind-eq10 : goal.returns-then-kind-eq10
+pub returns-in-10 : goal.returns-in-10
 unfolding by-record.decode
-returns-then-kind-eq10 c = rw c.if-kind-eq10.true
+returns-in-10 c = let e : c.args.kind ≡ 10 = omega arith in rw e
 
-pub returns-then-kind-eq11 : goal.returns-then-kind-eq11
+pub returns-in-11 : goal.returns-in-11
 unfolding by-record.decode
-returns-then-kind-eq11 c = rw c.if-kind-eq11.true
+returns-in-11 c = let e : c.args.kind ≡ 11 = omega arith in rw e
 
-pub returns : goal.returns
-unfolding by-record.decode
-returns c = bare_none _ c.if-kind-eq8.false c.if-kind-eq10.false c.if-kind-eq11.false
+pub returns-in_default : goal.returns-in_default
+returns-in_default c = bare_none _ (λ e. omega arith) (λ e. omega arith) (λ e. omega arith)

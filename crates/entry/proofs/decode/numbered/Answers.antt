@@ -1,19 +1,20 @@
 -- `entry::decode::numbered` meets its contract. Assumes nothing.
+use Rattle.text.proofs.Base.{◌≡◌, arith}
 use Rattle.entry.proofs.{DecodeLaws.numbered_none}
 use Rattle.entry.specs.Served as served
 use Rattle.entry.proofs.decode.numbered.Goals as goal
 
-pub returns-then-kind-eq1 : goal.returns-then-kind-eq1
+pub returns-in-1 : goal.returns-in-1
 unfolding served.numbered
-returns-then-kind-eq1 c = rw c.if-kind-eq1.true
+returns-in-1 c = let e : c.args.kind ≡ 1 = omega arith in rw e
 
-pub returns-then-kind-eq2 : goal.returns-then-kind-eq2
+pub returns-in-2 : goal.returns-in-2
 unfolding served.numbered
-returns-then-kind-eq2 c = rw c.if-kind-eq2.true
+returns-in-2 c = let e : c.args.kind ≡ 2 = omega arith in rw e
 
-pub returns-then-kind-eq3 : goal.returns-then-kind-eq3
+pub returns-in-3 : goal.returns-in-3
 unfolding served.numbered
-returns-then-kind-eq3 c = rw c.if-kind-eq3.true
+returns-in-3 c = let e : c.args.kind ≡ 3 = omega arith in rw e
 
-pub returns : goal.returns
-returns c = numbered_none _ _ c.if-kind-eq1.false c.if-kind-eq2.false c.if-kind-eq3.false
+pub returns-in_default : goal.returns-in_default
+returns-in_default c = numbered_none _ _ (λ e. omega arith) (λ e. omega arith) (λ e. omega arith)

@@ -1,26 +1,24 @@
 -- `entry::decode::short` meets its contract. Assumes nothing.
+use Rattle.text.proofs.Base.{◌≡◌, arith}
 use Rattle.meaning.specs.CallRecord as by-record
 use Rattle.entry.proofs.{DecodeLaws.short_none}
 use Rattle.entry.proofs.decode.short.Goals as goal
 
-pub returns-then-kind-eq4 : goal.returns-then-kind-eq4
+pub returns-in-4 : goal.returns-in-4
 unfolding by-record.decode
-returns-then-kind-eq4 c = rw c.if-kind-eq4.true c.literal.ensures
+returns-in-4 c = let e : c.args.kind ≡ 4 = omega arith in rw e c.literal.ensures
 
-pub returns-then-kind-eq5 : goal.returns-then-kind-eq5
+pub returns-in-5 : goal.returns-in-5
 unfolding by-record.decode
-returns-then-kind-eq5 c = rw c.if-kind-eq5.true c.hint.ensures
+returns-in-5 c = let e : c.args.kind ≡ 5 = omega arith in rw e c.hint.ensures
 
-pub returns-then-kind-eq6 : goal.returns-then-kind-eq6
+pub returns-in-6 : goal.returns-in-6
 unfolding by-record.decode
-returns-then-kind-eq6 c = rw c.if-kind-eq6.true
+returns-in-6 c = let e : c.args.kind ≡ 6 = omega arith in rw e
 
-pub returns-then-kind-eq7 : goal.returns-then-kind-eq7
+pub returns-in-7 : goal.returns-in-7
 unfolding by-record.decode
-returns-then-kind-eq7 c = rw c.if-kind-eq7.true
+returns-in-7 c = let e : c.args.kind ≡ 7 = omega arith in rw e
 
-pub returns-then-kind-eq9 : goal.returns-then-kind-eq9
-returns-then-kind-eq9 c = rw c.if-kind-eq9.true c.flush.ensures
-
-pub returns : goal.returns
-returns c = short_none _ _ c.if-kind-eq4.false c.if-kind-eq5.false c.if-kind-eq6.false c.if-kind-eq7.false c.if-kind-eq9.false
+pub returns-in_default : goal.returns-in_default
+returns-in_default c = short_none _ _ (λ e. omega arith) (λ e. omega arith) (λ e. omega arith) (λ e. omega arith) (λ e. omega arith)

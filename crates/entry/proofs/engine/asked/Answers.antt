@@ -2,11 +2,11 @@
 use Rattle.lent.proofs.MadeLaws.{keeps}
 use Rattle.entry.proofs.engine.asked.Goals as goal
 
-pub returns-in-Made : goal.returns-in-Made
-returns-in-Made c = rw c.in-Made.is c.make_call.ensures
+pub returns-in-Some : goal.returns-in-Some
+returns-in-Some c = rw c.in-Some.is c.make_call.ensures
 
 pub shape_of-out : goal.shape_of-out
-shape_of-out c = keeps (returns-in-Made c)
+shape_of-out c = keeps (returns-in-Some c)
 
-pub returns-in-Unknown : goal.returns-in-Unknown
-returns-in-Unknown c = rw c.in-Unknown.is (c.refuse.ensures.ran _ _ _)
+pub returns-in-None : goal.returns-in-None
+returns-in-None c = rw c.in-None.is (c.refuse.ensures.ran _ _ _)

@@ -1,14 +1,6 @@
 -- `entry::engine::record` meets its contract. Assumes nothing.
-use Rattle.text.proofs.Base.{ℕ}
-use lib.ListN.{replicate, length-replicate}
-use Rattle.lent.proofs.MadeLaws.{keeps}
-use Rattle.entry.proofs.{RoomLaws.full_room, ServeLaws.serve_record}
+use Rattle.entry.proofs.ServeLaws.{record_served}
 use Rattle.entry.proofs.engine.record.Goals as goal
 
-pub shape_of-out : goal.shape_of-out
-shape_of-out c = keeps c.asked.ensures
-
 pub returns : goal.returns
-returns c =
-    serve_record c.args.source.now c.args.tree.now (replicate 32768 0) _ c.decode-n.result c.decode-n.ensures (full_room c.args.tree.now (replicate 32768 0) (length-replicate {A = ℕ} 32768 0)) c.args.s c.args.out.now
-    c.opening.ensures _ c.started-fmt.ensures c.lent.ensures c.first.ensures c.args.bytes.now c.decode-d.result c.decode-d.ensures c.asked.ensures c.left.ensures
+returns c = record_served c.args.source.now c.args.tree.now c.args.s c.args.out.now c.args.bytes.now c.decode.ensures c.served.ensures

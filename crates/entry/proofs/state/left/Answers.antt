@@ -1,14 +1,11 @@
 -- `entry::state::left` meets its contract. Assumes nothing.
 use Rattle.text.proofs.Base.{◌∙◌, sym}
-use Rattle.lent.specs.Words.{run_of}
 use Rattle.lent.proofs.StopLaws.{goes}
 use Rattle.entry.proofs.{ServeLaws.left_open, ServeLaws.left_stopped}
 use Rattle.entry.proofs.state.left.Goals as goal
 
 pub returns-then-stopped : goal.returns-then-stopped
-returns-then-stopped c = rw c.answer-answer.ensures (left_stopped c.args.s (run_of c.args.fmt.now) c.args.queue.now (sym c.stopped.ensures ∙ c.if-stopped.true))
+returns-then-stopped c = left_stopped c.args.s c.args.fmt.now c.args.queue.now (sym c.stopped.ensures ∙ c.if-stopped.true)
 
 pub returns : goal.returns
-returns c =
-    rw (c.answer-answer.ensures, c.now_of-now.ensures)
-    (left_open c.args.s (run_of c.args.fmt.now) c.args.queue.now _ (goes c.stopped.ensures c.if-stopped.false) (rw (c.head.ensures, c.count.ensures) at c.tidy-queue.ensures))
+returns c = rw c.now_of-now.ensures (left_open c.args.s c.args.fmt.now c.args.queue.now _ (goes c.stopped.ensures c.if-stopped.false) c.tidy-queue.ensures)

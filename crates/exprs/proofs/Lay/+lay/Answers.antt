@@ -67,23 +67,23 @@ unfolding below
 body-returns t c =
     deep _ _ _ _ c.if-depth-eq0.false (parsed _ _ c.records_of-p.ensures (body_of _ _ c.is_spread-spread.ensures (steady c.enter.ensures ▹ c.stmts.ensures ▹ steady c.leave.ensures)) c.left_over.ensures)
 
-pub chain-loop-fmt-init : goal.chain-loop-fmt-init
-chain-loop-fmt-init t c = (no_link _ _ _, left_few _ _)
+pub chain-loop-p-init : goal.chain-loop-p-init
+chain-loop-p-init t c = (no_link _ _ _, left_few _ _)
 
 pub chain-overflow_add-n : goal.chain-overflow_add-n
-chain-overflow_add-n t c = omega (arith, c.loop-fmt.invariant.1)
+chain-overflow_add-n t c = omega (arith, c.loop-p.invariant.1)
 
-pub chain-loop-fmt-smaller : goal.chain-loop-fmt-smaller
-chain-loop-fmt-smaller t c =
-    let x = script_of c.args.src.now c.args.table.now in link_less x (lay x c.args.depth) _ c.loop-fmt.n c.has_next.ensures c.loop-fmt-test.true c.pump-link.ensures c.break_link.ensures c.link.ensures
+pub chain-loop-p-smaller : goal.chain-loop-p-smaller
+chain-loop-p-smaller t c =
+    let x = script_of c.args.src.now c.args.table.now in link_less x (lay x c.args.depth) _ c.loop-p.n c.has_next.ensures c.loop-p-test.true c.pump-link.ensures c.break_link.ensures c.link.ensures
 
-pub chain-loop-fmt-preserved : goal.chain-loop-fmt-preserved
-chain-loop-fmt-preserved t c =
-    let x = script_of c.args.src.now c.args.table.now in let less = link_less x (lay x c.args.depth) _ c.loop-fmt.n c.has_next.ensures c.loop-fmt-test.true c.pump-link.ensures c.break_link.ensures c.link.ensures in (next_link x (lay x c.args.depth) _ c.loop-fmt.n c.has_next.ensures c.loop-fmt-test.true c.pump-link.ensures c.break_link.ensures c.link.ensures c.loop-fmt.invariant.0, omega (arith, c.loop-fmt.invariant.1))
+pub chain-loop-p-preserved : goal.chain-loop-p-preserved
+chain-loop-p-preserved t c =
+    let x = script_of c.args.src.now c.args.table.now in let less = link_less x (lay x c.args.depth) _ c.loop-p.n c.has_next.ensures c.loop-p-test.true c.pump-link.ensures c.break_link.ensures c.link.ensures in (next_link x (lay x c.args.depth) _ c.loop-p.n c.has_next.ensures c.loop-p-test.true c.pump-link.ensures c.break_link.ensures c.link.ensures c.loop-p.invariant.0, omega (arith, c.loop-p.invariant.1))
 
 pub chain-returns : goal.chain-returns
 chain-returns t c =
-    parsed _ _ c.records_of-p.ensures (chain_of _ c.records_of-p.ensures c.pump-head.ensures c.chain_from-from.ensures (pumped _ c.pump-head.ensures c.inner.ensures ▹ all_linked _ _ _ c.has_next.ensures c.loop-fmt-test.false c.loop-fmt.invariant.0 c.end_chain.ensures)) c.left_over.ensures
+    parsed _ _ c.records_of-p.ensures (chain_of _ (tree_few c.args.table.now) c.records_of-p.ensures c.pump-head.ensures c.chain_from-from.ensures (pumped _ c.pump-head.ensures c.inner.ensures ▹ all_linked _ _ _ c.has_next.ensures c.loop-p-test.false c.loop-p.invariant.0 c.end_chain.ensures)) c.left_over.ensures
 
 pub cond-returns-then-next_is : goal.cond-returns-then-next_is
 unfolding condition byte_of facts_of
@@ -157,7 +157,7 @@ exprs-returns-then-loose t c =
     parsed _ _ c.records_of-p.ensures (exprs_of _ c.records_of-p.ensures _ _ c.children_of.ensures c.goes_loose-loose.ensures (c.token.ensures ▹ step_so _ _ refl c.if-loose.true c.loose.ensures ▹ c.token-then-loose.ensures)) c.left_over.ensures
 
 pub exprs-loop-fmt-init : goal.exprs-loop-fmt-init
-exprs-loop-fmt-init t c = no_item_lem _ c.fresh-comma.ensures
+exprs-loop-fmt-init t c = no_item_lem
 
 pub exprs-loop-fmt-smaller : goal.exprs-loop-fmt-smaller
 exprs-loop-fmt-smaller t c =
@@ -348,46 +348,46 @@ unfolding loop_of byte_of facts_of
 loops-returns-in_default t c =
     parsed _ _ c.records_of-p.ensures (loop_of_lem _ c.records_of-p.ensures c.kind_at-kind.ensures (step_not _ _ refl (ne_eqb _ _ c.in_default.in_default-own.rest.0.1) (step_not _ _ refl (ne_eqb _ _ c.in_default.in_default-own.rest.1) (c.for_in.ensures ▹ pumped _ c.pump-n.ensures c.expr.ensures ▹ steady c.ws.ensures ▹ expected _ _ _ c.expect-n-in_default.ensures c.block-in_default.ensures)))) c.left_over-in_default.ensures
 
-pub loose-loop-fmt-init : goal.loose-loop-fmt-init
-loose-loop-fmt-init t c = starts
+pub loose-loop-p-init : goal.loose-loop-p-init
+loose-loop-p-init t c = starts
 
-pub loose-loop-fmt-smaller : goal.loose-loop-fmt-smaller
-loose-loop-fmt-smaller t c =
-    let x = script_of c.args.src.now c.args.table.now in falls (loose_falls x (lay x c.args.depth)) c.next_expr.ensures c.loop-fmt-test.true (pumped _ c.pump-n.ensures (loose_entry_lem _ _ c.comments.ensures c.expr.ensures) ▹ c.end_entry.ensures)
+pub loose-loop-p-smaller : goal.loose-loop-p-smaller
+loose-loop-p-smaller t c =
+    let x = script_of c.args.src.now c.args.table.now in falls (loose_falls x (lay x c.args.depth)) c.next_expr.ensures c.loop-p-test.true (pumped _ c.pump-n.ensures (loose_entry_lem _ _ c.comments.ensures c.expr.ensures) ▹ c.end_entry.ensures)
 
-pub loose-loop-fmt-preserved : goal.loose-loop-fmt-preserved
-loose-loop-fmt-preserved t c =
-    let x = script_of c.args.src.now c.args.table.now in goes_on (loose_falls x (lay x c.args.depth)) c.next_expr.ensures c.loop-fmt-test.true (pumped _ c.pump-n.ensures (loose_entry_lem _ _ c.comments.ensures c.expr.ensures) ▹ c.end_entry.ensures) c.loop-fmt.invariant
+pub loose-loop-p-preserved : goal.loose-loop-p-preserved
+loose-loop-p-preserved t c =
+    let x = script_of c.args.src.now c.args.table.now in goes_on (loose_falls x (lay x c.args.depth)) c.next_expr.ensures c.loop-p-test.true (pumped _ c.pump-n.ensures (loose_entry_lem _ _ c.comments.ensures c.expr.ensures) ▹ c.end_entry.ensures) c.loop-p.invariant
 
 pub loose-returns : goal.loose-returns
 unfolding loose
-loose-returns t c = steady c.open_lines.ensures ▹ done c.next_expr.ensures c.loop-fmt-test.false c.loop-fmt.invariant ▹ steady c.close_lines.ensures
+loose-returns t c = steady c.open_lines.ensures ▹ done c.next_expr.ensures c.loop-p-test.false c.loop-p.invariant ▹ steady c.close_lines.ensures
 
-pub match_-loop-fmt-init : goal.match_-loop-fmt-init
-match_-loop-fmt-init t c = starts
+pub match_-loop-p-init : goal.match_-loop-p-init
+match_-loop-p-init t c = starts
 
-pub match_-loop-fmt-smaller : goal.match_-loop-fmt-smaller
+pub match_-loop-p-smaller : goal.match_-loop-p-smaller
 unfolding byte_of facts_of
-match_-loop-fmt-smaller t c =
-    let x = script_of c.args.src.now c.args.table.now in seen_less _ _ _ (cases_take x (lay x c.args.depth)) c.next_is.ensures c.loop-fmt-test.true (comma_of _ _ _ c.next_is.ensures c.loop-fmt-test.true c.pump-n-in-loop-fmt.ensures c.is_block_arm.ensures (pumped _ c.pump-n-in-loop-fmt.ensures (match_arm_lem _ _ _ c.open_arm.ensures c.arm.ensures) ▹ c.arm_comma.ensures))
+match_-loop-p-smaller t c =
+    let x = script_of c.args.src.now c.args.table.now in seen_less _ _ _ (cases_take x (lay x c.args.depth)) c.next_is.ensures c.loop-p-test.true (comma_of _ _ _ c.next_is.ensures c.loop-p-test.true c.pump-n-in-loop-p.ensures c.is_block_arm.ensures (pumped _ c.pump-n-in-loop-p.ensures (match_arm_lem _ _ _ c.open_arm.ensures c.arm.ensures) ▹ c.arm_comma.ensures))
 
-pub match_-loop-fmt-preserved : goal.match_-loop-fmt-preserved
+pub match_-loop-p-preserved : goal.match_-loop-p-preserved
 unfolding byte_of facts_of
-match_-loop-fmt-preserved t c =
-    let x = script_of c.args.src.now c.args.table.now in next_seen _ _ _ (cases_take x (lay x c.args.depth)) c.next_is.ensures c.loop-fmt-test.true (comma_of _ _ _ c.next_is.ensures c.loop-fmt-test.true c.pump-n-in-loop-fmt.ensures c.is_block_arm.ensures (pumped _ c.pump-n-in-loop-fmt.ensures (match_arm_lem _ _ _ c.open_arm.ensures c.arm.ensures) ▹ c.arm_comma.ensures)) c.loop-fmt.invariant
+match_-loop-p-preserved t c =
+    let x = script_of c.args.src.now c.args.table.now in next_seen _ _ _ (cases_take x (lay x c.args.depth)) c.next_is.ensures c.loop-p-test.true (comma_of _ _ _ c.next_is.ensures c.loop-p-test.true c.pump-n-in-loop-p.ensures c.is_block_arm.ensures (pumped _ c.pump-n-in-loop-p.ensures (match_arm_lem _ _ _ c.open_arm.ensures c.arm.ensures) ▹ c.arm_comma.ensures)) c.loop-p.invariant
 
 pub match_-returns : goal.match_-returns
 unfolding matches cases byte_of facts_of
 match_-returns t c =
-    parsed _ _ c.records_of-p.ensures (c.word.ensures ▹ pumped _ c.pump-n.ensures c.expr.ensures ▹ c.open_match.ensures ▹ (all_seen _ c.next_is.ensures c.loop-fmt-test.false c.loop-fmt.invariant ▹ last_done _ c.close_arms.ensures) ▹ c.token.ensures) c.left_over.ensures
+    parsed _ _ c.records_of-p.ensures (c.word.ensures ▹ pumped _ c.pump-n.ensures c.expr.ensures ▹ c.open_match.ensures ▹ (all_seen _ c.next_is.ensures c.loop-p-test.false c.loop-p.invariant ▹ last_done _ c.close_arms.ensures) ▹ c.token.ensures) c.left_over.ensures
 
 pub object-returns-then-loose : goal.object-returns-then-loose
 unfolding byte_of facts_of
 object-returns-then-loose t c =
-    parsed _ _ c.records_of-p.ensures (object_of _ c.records_of-p.ensures (behind_name_lem (script_of c.args.src.now c.args.table.now) (tree_few c.args.table.now) c.peek.ensures c.behind.ensures) c.goes_loose-loose.ensures (c.object_name.ensures ▹ c.token.ensures ▹ step_so _ _ refl c.if-loose.true c.rows.ensures)) c.left_over.ensures
+    parsed _ _ c.records_of-p.ensures (object_of _ c.records_of-p.ensures (behind_name_lem (script_of c.args.src.now c.args.table.now) (tree_few c.args.table.now) c.peek.ensures c.unwrap_or-name.ensures c.behind.ensures) c.goes_loose-loose.ensures (c.object_name.ensures ▹ c.token.ensures ▹ step_so _ _ refl c.if-loose.true c.rows.ensures)) c.left_over.ensures
 
 pub object-loop-fmt-init : goal.object-loop-fmt-init
-object-loop-fmt-init t c = no_item_lem _ c.fresh-comma.ensures
+object-loop-fmt-init t c = no_item_lem
 
 pub object-loop-fmt-smaller : goal.object-loop-fmt-smaller
 unfolding byte_of facts_of
@@ -402,7 +402,7 @@ object-loop-fmt-preserved t c =
 pub object-returns : goal.object-returns
 unfolding row byte_of facts_of
 object-returns t c =
-    parsed _ _ c.records_of-p.ensures (object_of _ c.records_of-p.ensures (behind_name_lem (script_of c.args.src.now c.args.table.now) (tree_few c.args.table.now) c.peek.ensures c.behind.ensures) c.goes_loose-loose.ensures (c.object_name.ensures ▹ c.token.ensures ▹ step_not _ _ refl c.if-loose.false (items_done _ _ _ c.next_is.ensures c.loop-fmt-test.false c.loop-fmt.invariant.going ▹ object_ends c.close_object.ensures ▹ c.put_remaining.ensures))) c.left_over-2.ensures
+    parsed _ _ c.records_of-p.ensures (object_of _ c.records_of-p.ensures (behind_name_lem (script_of c.args.src.now c.args.table.now) (tree_few c.args.table.now) c.peek.ensures c.unwrap_or-name.ensures c.behind.ensures) c.goes_loose-loose.ensures (c.object_name.ensures ▹ c.token.ensures ▹ step_not _ _ refl c.if-loose.false (items_done _ _ _ c.next_is.ensures c.loop-fmt-test.false c.loop-fmt.invariant.going ▹ object_ends c.close_object.ensures ▹ c.put_remaining.ensures))) c.left_over-2.ensures
 
 pub pair-returns-then-next_is : goal.pair-returns-then-next_is
 unfolding pair byte_of facts_of
@@ -444,23 +444,23 @@ pub rows-returns : goal.rows-returns
 unfolding rows byte_of facts_of
 rows-returns t c = steady c.open_lines.ensures ▹ done c.next_is.ensures c.loop-fmt-test.false c.loop-fmt.invariant ▹ c.close_keys.ensures
 
-pub select-loop-fmt-init : goal.select-loop-fmt-init
-select-loop-fmt-init t c = starts
+pub select-loop-p-init : goal.select-loop-p-init
+select-loop-p-init t c = starts
 
-pub select-loop-fmt-smaller : goal.select-loop-fmt-smaller
+pub select-loop-p-smaller : goal.select-loop-p-smaller
 unfolding byte_of facts_of
-select-loop-fmt-smaller t c =
-    let x = script_of c.args.src.now c.args.table.now in falls (arms_fall x (lay x c.args.depth)) c.next_is-in-loop-fmt.ensures c.loop-fmt-test.true (comma_of _ _ _ c.next_is-in-loop-fmt.ensures c.loop-fmt-test.true c.pump-n.ensures c.is_block_arm.ensures (pumped _ c.pump-n.ensures (select_arm_lem _ _ c.before_line.ensures c.arm.ensures) ▹ c.arm_comma.ensures))
+select-loop-p-smaller t c =
+    let x = script_of c.args.src.now c.args.table.now in falls (arms_fall x (lay x c.args.depth)) c.next_is-in-loop-p.ensures c.loop-p-test.true (comma_of _ _ _ c.next_is-in-loop-p.ensures c.loop-p-test.true c.pump-n.ensures c.is_block_arm.ensures (pumped _ c.pump-n.ensures (select_arm_lem _ _ c.before_line.ensures c.arm.ensures) ▹ c.arm_comma.ensures))
 
-pub select-loop-fmt-preserved : goal.select-loop-fmt-preserved
+pub select-loop-p-preserved : goal.select-loop-p-preserved
 unfolding byte_of facts_of
-select-loop-fmt-preserved t c =
-    let x = script_of c.args.src.now c.args.table.now in goes_on (arms_fall x (lay x c.args.depth)) c.next_is-in-loop-fmt.ensures c.loop-fmt-test.true (comma_of _ _ _ c.next_is-in-loop-fmt.ensures c.loop-fmt-test.true c.pump-n.ensures c.is_block_arm.ensures (pumped _ c.pump-n.ensures (select_arm_lem _ _ c.before_line.ensures c.arm.ensures) ▹ c.arm_comma.ensures)) c.loop-fmt.invariant
+select-loop-p-preserved t c =
+    let x = script_of c.args.src.now c.args.table.now in goes_on (arms_fall x (lay x c.args.depth)) c.next_is-in-loop-p.ensures c.loop-p-test.true (comma_of _ _ _ c.next_is-in-loop-p.ensures c.loop-p-test.true c.pump-n.ensures c.is_block_arm.ensures (pumped _ c.pump-n.ensures (select_arm_lem _ _ c.before_line.ensures c.arm.ensures) ▹ c.arm_comma.ensures)) c.loop-p.invariant
 
 pub select-returns-then-next_is : goal.select-returns-then-next_is
 unfolding select arms byte_of facts_of
 select-returns-then-next_is t c =
-    parsed _ _ c.records_of-p.ensures (c.word.ensures ▹ next_so _ _ _ c.next_is.ensures c.if-next_is.true (c.open_select.ensures ▹ done c.next_is-in-loop-fmt.ensures c.loop-fmt-test.false c.loop-fmt.invariant ▹ c.close_select.ensures)) c.left_over.ensures
+    parsed _ _ c.records_of-p.ensures (c.word.ensures ▹ next_so _ _ _ c.next_is.ensures c.if-next_is.true (c.open_select.ensures ▹ done c.next_is-in-loop-p.ensures c.loop-p-test.false c.loop-p.invariant ▹ c.close_select.ensures)) c.left_over.ensures
 
 pub select-returns : goal.select-returns
 unfolding select byte_of facts_of
@@ -478,38 +478,38 @@ pub stmt-returns : goal.stmt-returns
 unfolding stmt
 stmt-returns t c = if_not _ _ c.is_item.ensures c.if-is_item.false (if_not _ _ c.is_let.ensures c.if-is_let.false c.expr.ensures)
 
-pub stmts-loop-fmt-init : goal.stmts-loop-fmt-init
-stmts-loop-fmt-init t c = none_said _ _
+pub stmts-loop-p-init : goal.stmts-loop-p-init
+stmts-loop-p-init t c = none_said _ _
 
-pub stmts-loop-fmt-smaller : goal.stmts-loop-fmt-smaller
-stmts-loop-fmt-smaller t c =
-    let x = script_of c.args.src.now c.args.table.now in said_less x (lay x c.args.depth) c.loop-fmt.last c.has_next.ensures c.loop-fmt-test.true c.pump-n.ensures c.kind_at-kind.ensures (pumped _ c.pump-n.ensures (statement_of _ _ _ c.kind_at-kind.ensures c.gap.ensures c.comments.ensures c.stmt.ensures) ▹ c.semicolon.ensures)
+pub stmts-loop-p-smaller : goal.stmts-loop-p-smaller
+stmts-loop-p-smaller t c =
+    let x = script_of c.args.src.now c.args.table.now in said_less x (lay x c.args.depth) c.loop-p.last c.has_next.ensures c.loop-p-test.true c.pump-n.ensures c.kind_at-kind.ensures (pumped _ c.pump-n.ensures (statement_of _ _ _ c.kind_at-kind.ensures c.gap.ensures c.comments.ensures c.stmt.ensures) ▹ c.semicolon.ensures)
 
-pub stmts-loop-fmt-preserved : goal.stmts-loop-fmt-preserved
-stmts-loop-fmt-preserved t c =
-    let x = script_of c.args.src.now c.args.table.now in next_said x (lay x c.args.depth) c.loop-fmt.last c.has_next.ensures c.loop-fmt-test.true c.pump-n.ensures c.kind_at-kind.ensures (pumped _ c.pump-n.ensures (statement_of _ _ _ c.kind_at-kind.ensures c.gap.ensures c.comments.ensures c.stmt.ensures) ▹ c.semicolon.ensures) c.loop-fmt.invariant
+pub stmts-loop-p-preserved : goal.stmts-loop-p-preserved
+stmts-loop-p-preserved t c =
+    let x = script_of c.args.src.now c.args.table.now in next_said x (lay x c.args.depth) c.loop-p.last c.has_next.ensures c.loop-p-test.true c.pump-n.ensures c.kind_at-kind.ensures (pumped _ c.pump-n.ensures (statement_of _ _ _ c.kind_at-kind.ensures c.gap.ensures c.comments.ensures c.stmt.ensures) ▹ c.semicolon.ensures) c.loop-p.invariant
 
 pub stmts-returns : goal.stmts-returns
 unfolding stmts
-stmts-returns t c = c.inner_attributes.ensures ▹ all_said _ _ c.has_next.ensures c.loop-fmt-test.false c.loop-fmt.invariant
+stmts-returns t c = c.inner_attributes.ensures ▹ all_said _ _ c.has_next.ensures c.loop-p-test.false c.loop-p.invariant
 
-pub tail-loop-fmt-init : goal.tail-loop-fmt-init
-tail-loop-fmt-init t c = starts
+pub tail-loop-p-init : goal.tail-loop-p-init
+tail-loop-p-init t c = starts
 
-pub tail-loop-fmt-smaller : goal.tail-loop-fmt-smaller
-tail-loop-fmt-smaller t c =
-    let x = script_of c.args.src.now c.args.table.now in falls (pump_falls _ (lay x c.args.depth Rule.Else)) c.has_next.ensures c.loop-fmt-test.true (pumped _ c.pump-n.ensures c.else_.ensures)
+pub tail-loop-p-smaller : goal.tail-loop-p-smaller
+tail-loop-p-smaller t c =
+    let x = script_of c.args.src.now c.args.table.now in falls (pump_falls _ (lay x c.args.depth Rule.Else)) c.has_next.ensures c.loop-p-test.true (pumped _ c.pump-n.ensures c.else_.ensures)
 
-pub tail-loop-fmt-preserved : goal.tail-loop-fmt-preserved
-tail-loop-fmt-preserved t c =
-    let x = script_of c.args.src.now c.args.table.now in goes_on (pump_falls _ (lay x c.args.depth Rule.Else)) c.has_next.ensures c.loop-fmt-test.true (pumped _ c.pump-n.ensures c.else_.ensures) c.loop-fmt.invariant
+pub tail-loop-p-preserved : goal.tail-loop-p-preserved
+tail-loop-p-preserved t c =
+    let x = script_of c.args.src.now c.args.table.now in goes_on (pump_falls _ (lay x c.args.depth Rule.Else)) c.has_next.ensures c.loop-p-test.true (pumped _ c.pump-n.ensures c.else_.ensures) c.loop-p.invariant
 
 pub tail-returns : goal.tail-returns
 unfolding tail
-tail-returns t c = done c.has_next.ensures c.loop-fmt-test.false c.loop-fmt.invariant
+tail-returns t c = done c.has_next.ensures c.loop-p-test.false c.loop-p.invariant
 
 pub tuple-loop-fmt-init : goal.tuple-loop-fmt-init
-tuple-loop-fmt-init t c = none_counted _ c.fresh-comma.ensures
+tuple-loop-fmt-init t c = none_counted
 
 pub tuple-loop-fmt-smaller : goal.tuple-loop-fmt-smaller
 tuple-loop-fmt-smaller t c =

@@ -2,7 +2,7 @@
 use Rattle.std.proofs.Common.{◌+◌, ◌*◌}
 use Rattle.exprs.specs.Arms.{match_arm, with_comma, select_arm}
 use Rattle.exprs.specs.Lay.{lay}
-use Rattle.steps.proofs.Rules.{byte_of, ℕ, Going, Kind, Stream, ◌▸◌, engine, is, length, pump, script_of, stream_at, tree_of, ◌≤◌, Listing, listed, remaining_of, suffix, turn, Bool, Seeing, true, Counting, few_of}
+use Rattle.steps.proofs.Rules.{byte_of, ℕ, Going, Kind, Stream, ◌▸◌, engine, is, length, pump, script_of, stream_at, tree_of, ◌≤◌, Listing, listed, remaining_of, suffix, turn, Bool, Seeing, true, Counting}
 use Rattle.exprs.specs.Rule.{Rule}
 use Rattle.parts.specs.Spaced.{between, is_expr}
 use Rattle.exprs.proofs.StmtLaws.{Saying}
@@ -112,11 +112,11 @@ invariant-binary-loop-fmt l = let x = script_of l.src l.table in Going x (λ (s 
 abbrev pub decreases-binary-loop-fmt : goal.decreases-binary-loop-fmt
 decreases-binary-loop-fmt l = length (stream_at (tree_of l.table) l.p).left
 
-abbrev pub invariant-chain-loop-fmt : goal.invariant-chain-loop-fmt
-invariant-chain-loop-fmt l = let x = script_of l.src l.table in Linking x (lay x l.depth) l.from (stream_at x.tree l.initial.p) (engine l.initial.fmt l.initial.queue l.initial.out) (stream_at x.tree l.p) (engine l.fmt l.queue l.out) l.n × (l.n + length (stream_at x.tree l.p).left ≤ 8193)
+abbrev pub invariant-chain-loop-p : goal.invariant-chain-loop-p
+invariant-chain-loop-p l = let x = script_of l.src l.table in Linking x (lay x l.depth) l.from (stream_at x.tree l.initial.p) (engine l.initial.fmt l.initial.queue l.initial.out) (stream_at x.tree l.p) (engine l.fmt l.queue l.out) l.n × (l.n + length (stream_at x.tree l.p).left ≤ 8193)
 
-abbrev pub decreases-chain-loop-fmt : goal.decreases-chain-loop-fmt
-decreases-chain-loop-fmt l = length (stream_at (tree_of l.table) l.p).left
+abbrev pub decreases-chain-loop-p : goal.decreases-chain-loop-p
+decreases-chain-loop-p l = length (stream_at (tree_of l.table) l.p).left
 
 abbrev pub invariant-exprs-loop-fmt : goal.invariant-exprs-loop-fmt
 invariant-exprs-loop-fmt l = let x = script_of l.src l.table in Listing x (is_expr x.tree) (turn x.tree (listed (lay x l.depth Rule.Expr)) suffix) (stream_at x.tree l.initial.p) (engine l.initial.fmt l.initial.queue l.initial.out) (stream_at x.tree l.p) (engine l.fmt l.queue l.out) (remaining_of Comma l.comma)
@@ -124,17 +124,17 @@ invariant-exprs-loop-fmt l = let x = script_of l.src l.table in Listing x (is_ex
 abbrev pub decreases-exprs-loop-fmt : goal.decreases-exprs-loop-fmt
 decreases-exprs-loop-fmt l = length (stream_at (tree_of l.table) l.p).left
 
-abbrev pub invariant-loose-loop-fmt : goal.invariant-loose-loop-fmt
-invariant-loose-loop-fmt l = let x = script_of l.src l.table in Going x (λ (s : Stream). s) (is_expr x.tree) (pump (loose_entry x (lay x l.depth)) ▸ end_entry x.tree) (stream_at x.tree l.initial.p) (engine l.initial.fmt l.initial.queue l.initial.out) (stream_at x.tree l.p) (engine l.fmt l.queue l.out)
+abbrev pub invariant-loose-loop-p : goal.invariant-loose-loop-p
+invariant-loose-loop-p l = let x = script_of l.src l.table in Going x (λ (s : Stream). s) (is_expr x.tree) (pump (loose_entry x (lay x l.depth)) ▸ end_entry x.tree) (stream_at x.tree l.initial.p) (engine l.initial.fmt l.initial.queue l.initial.out) (stream_at x.tree l.p) (engine l.fmt l.queue l.out)
 
-abbrev pub decreases-loose-loop-fmt : goal.decreases-loose-loop-fmt
-decreases-loose-loop-fmt l = length (stream_at (tree_of l.table) l.p).left
+abbrev pub decreases-loose-loop-p : goal.decreases-loose-loop-p
+decreases-loose-loop-p l = length (stream_at (tree_of l.table) l.p).left
 
-abbrev pub invariant-match_-loop-fmt : goal.invariant-match_-loop-fmt
-invariant-match_-loop-fmt l = let x = script_of l.src l.table in Seeing x (is x.tree Kind.ExprMatchArm) (λ (any : Bool). with_comma x (lay x l.depth) (match_arm x (lay x l.depth) any)) (stream_at x.tree l.initial.p) (engine l.initial.fmt l.initial.queue l.initial.out) (stream_at x.tree l.p) (engine l.fmt l.queue l.out) l.seen
+abbrev pub invariant-match_-loop-p : goal.invariant-match_-loop-p
+invariant-match_-loop-p l = let x = script_of l.src l.table in Seeing x (is x.tree Kind.ExprMatchArm) (λ (any : Bool). with_comma x (lay x l.depth) (match_arm x (lay x l.depth) any)) (stream_at x.tree l.initial.p) (engine l.initial.fmt l.initial.queue l.initial.out) (stream_at x.tree l.p) (engine l.fmt l.queue l.out) l.seen
 
-abbrev pub decreases-match_-loop-fmt : goal.decreases-match_-loop-fmt
-decreases-match_-loop-fmt l = length (stream_at (tree_of l.table) l.p).left
+abbrev pub decreases-match_-loop-p : goal.decreases-match_-loop-p
+decreases-match_-loop-p l = length (stream_at (tree_of l.table) l.p).left
 
 abbrev pub invariant-object-loop-fmt : goal.invariant-object-loop-fmt
 invariant-object-loop-fmt l = let x = script_of l.src l.table in Listing x (is x.tree Kind.ObjectKey) (turn x.tree (keyed x (lay x l.depth)) silent) (stream_at x.tree l.initial.p) (engine l.initial.fmt l.initial.queue l.initial.out) (stream_at x.tree l.p) (engine l.fmt l.queue l.out) (remaining_of Comma l.comma)
@@ -148,26 +148,26 @@ invariant-rows-loop-fmt l = let x = script_of l.src l.table in Going x (λ (s : 
 abbrev pub decreases-rows-loop-fmt : goal.decreases-rows-loop-fmt
 decreases-rows-loop-fmt l = length (stream_at (tree_of l.table) l.p).left
 
-abbrev pub invariant-select-loop-fmt : goal.invariant-select-loop-fmt
-invariant-select-loop-fmt l = let x = script_of l.src l.table in Going x (λ (s : Stream). s) (is x.tree Kind.ExprSelectArm) (with_comma x (lay x l.depth) (select_arm x (lay x l.depth))) (stream_at x.tree l.initial.p) (engine l.initial.fmt l.initial.queue l.initial.out) (stream_at x.tree l.p) (engine l.fmt l.queue l.out)
+abbrev pub invariant-select-loop-p : goal.invariant-select-loop-p
+invariant-select-loop-p l = let x = script_of l.src l.table in Going x (λ (s : Stream). s) (is x.tree Kind.ExprSelectArm) (with_comma x (lay x l.depth) (select_arm x (lay x l.depth))) (stream_at x.tree l.initial.p) (engine l.initial.fmt l.initial.queue l.initial.out) (stream_at x.tree l.p) (engine l.fmt l.queue l.out)
 
-abbrev pub decreases-select-loop-fmt : goal.decreases-select-loop-fmt
-decreases-select-loop-fmt l = length (stream_at (tree_of l.table) l.p).left
+abbrev pub decreases-select-loop-p : goal.decreases-select-loop-p
+decreases-select-loop-p l = length (stream_at (tree_of l.table) l.p).left
 
-abbrev pub invariant-stmts-loop-fmt : goal.invariant-stmts-loop-fmt
-invariant-stmts-loop-fmt l = let x = script_of l.src l.table in Saying x (lay x l.depth) (stream_at x.tree l.initial.p) (engine l.initial.fmt l.initial.queue l.initial.out) (stream_at x.tree l.p) (engine l.fmt l.queue l.out) l.last
+abbrev pub invariant-stmts-loop-p : goal.invariant-stmts-loop-p
+invariant-stmts-loop-p l = let x = script_of l.src l.table in Saying x (lay x l.depth) (stream_at x.tree l.initial.p) (engine l.initial.fmt l.initial.queue l.initial.out) (stream_at x.tree l.p) (engine l.fmt l.queue l.out) l.last
 
-abbrev pub decreases-stmts-loop-fmt : goal.decreases-stmts-loop-fmt
-decreases-stmts-loop-fmt l = length (stream_at (tree_of l.table) l.p).left
+abbrev pub decreases-stmts-loop-p : goal.decreases-stmts-loop-p
+decreases-stmts-loop-p l = length (stream_at (tree_of l.table) l.p).left
 
-abbrev pub invariant-tail-loop-fmt : goal.invariant-tail-loop-fmt
-invariant-tail-loop-fmt l = let x = script_of l.src l.table in Going x (λ (s : Stream). s) (λ (k : ℕ). true) (pump (lay x l.depth Rule.Else)) (stream_at x.tree l.initial.p) (engine l.initial.fmt l.initial.queue l.initial.out) (stream_at x.tree l.p) (engine l.fmt l.queue l.out)
+abbrev pub invariant-tail-loop-p : goal.invariant-tail-loop-p
+invariant-tail-loop-p l = let x = script_of l.src l.table in Going x (λ (s : Stream). s) (λ (k : ℕ). true) (pump (lay x l.depth Rule.Else)) (stream_at x.tree l.initial.p) (engine l.initial.fmt l.initial.queue l.initial.out) (stream_at x.tree l.p) (engine l.fmt l.queue l.out)
 
-abbrev pub decreases-tail-loop-fmt : goal.decreases-tail-loop-fmt
-decreases-tail-loop-fmt l = length (stream_at (tree_of l.table) l.p).left
+abbrev pub decreases-tail-loop-p : goal.decreases-tail-loop-p
+decreases-tail-loop-p l = length (stream_at (tree_of l.table) l.p).left
 
 abbrev pub invariant-tuple-loop-fmt : goal.invariant-tuple-loop-fmt
-invariant-tuple-loop-fmt l = let x = script_of l.src l.table in Counting x (is_expr x.tree) (turn x.tree (listed (lay x l.depth Rule.Expr)) suffix) (stream_at x.tree l.initial.p) (engine l.initial.fmt l.initial.queue l.initial.out) (stream_at x.tree l.p) (engine l.fmt l.queue l.out) (remaining_of Comma l.comma) (few_of l.count)
+invariant-tuple-loop-fmt l = let x = script_of l.src l.table in Counting x (is_expr x.tree) (turn x.tree (listed (lay x l.depth Rule.Expr)) suffix) (stream_at x.tree l.initial.p) (engine l.initial.fmt l.initial.queue l.initial.out) (stream_at x.tree l.p) (engine l.fmt l.queue l.out) (remaining_of Comma l.comma) l.count
 
 abbrev pub decreases-tuple-loop-fmt : goal.decreases-tuple-loop-fmt
 decreases-tuple-loop-fmt l = length (stream_at (tree_of l.table) l.p).left

@@ -1,10 +1,9 @@
 -- `format::ended::ended` meets its contract. Zeroed, or as it is. Assumes nothing.
-use Rattle.lent.specs.Words.{run_of}
 use Rattle.format.proofs.{EndLaws.end_open, EndLaws.end_stopped}
 use Rattle.format.proofs.ended.ended.Goals as goal
 
 pub returns-then-stopped : goal.returns-then-stopped
-returns-then-stopped c = record { step = c.left.ensures.out; buffer = end_stopped (run_of c.args.fmt.now).answer _ _ _ c.stopped.ensures c.if-stopped.true c.zero_from.ensures }
+returns-then-stopped c = record { step = c.left.ensures.out; buffer = end_stopped c.args.fmt.now.answer _ _ _ c.stopped.ensures c.if-stopped.true c.zero_from.ensures }
 
 pub returns : goal.returns
-returns c = record { step = c.left-2.ensures.out; buffer = end_open (run_of c.args.fmt.now).answer _ _ c.stopped.ensures c.if-stopped.false }
+returns c = record { step = c.left-2.ensures.out; buffer = end_open c.args.fmt.now.answer _ _ c.stopped.ensures c.if-stopped.false }

@@ -3,12 +3,12 @@ use Rattle.gaps.proofs.ArmLaws.{block_body, no_body, no_inner}
 use Rattle.steps.proofs.Rules.{byte_of, facts_of}
 use Rattle.gaps.proofs.arms.is_block_arm.Goals as goal
 
-pub returns-then-is_some-2 : goal.returns-then-is_some-2
+pub returns-in_default : goal.returns-in_default
+returns-in_default c = no_body _ _ c.last.ensures c.in_default.not-Some
+
+pub returns-in_default-last : goal.returns-in_default-last
+returns-in_default-last c = no_inner _ _ c.last.ensures c.in-Some.is c.last-2.ensures c.in_default-last.not-Some
+
+pub returns : goal.returns
 unfolding byte_of facts_of
-returns-then-is_some-2 c = block_body _ _ c.last-body.ensures c.is_some.ensures c.if-is_some.true c.last-inner.ensures c.is_some-then-is_some.ensures c.if-is_some-2.true c.kind_at.ensures
-
-pub returns-else-is_some-2 : goal.returns-else-is_some-2
-returns-else-is_some-2 c = no_inner _ _ c.last-body.ensures c.is_some.ensures c.if-is_some.true c.last-inner.ensures c.is_some-then-is_some.ensures c.if-is_some-2.false
-
-pub returns-else-is_some : goal.returns-else-is_some
-returns-else-is_some c = no_body _ _ c.last-body.ensures c.is_some.ensures c.if-is_some.false
+returns c = block_body _ _ c.last.ensures c.in-Some.is c.last-2.ensures c.in-Some-last.is c.kind_at.ensures

@@ -3,7 +3,7 @@ use Rattle.gaps.proofs.ArmLaws.{last_less, last_next, last_of_lem, last_starts}
 use Rattle.gaps.proofs.arms.last.Goals as goal
 
 pub loop-n-init : goal.loop-n-init
-loop-n-init c = last_starts c.nothing-n.ensures
+loop-n-init c = last_starts
 
 pub loop-n-smaller : goal.loop-n-smaller
 loop-n-smaller c = last_less _ c.has_next.ensures c.loop-n-test.true c.take-n.ensures

@@ -19,10 +19,10 @@ is_none Class.Other = false
 
 none_is : (c : Class) → is_none c ≡ true → Class.None ≡ c
 none_is Class.None h = refl
-none_is Class.Item h = let z : ◌≡◌ {A = ℕ} 0 1 = cc in absurd (omega arith)
-none_is Class.Const h = let z : ◌≡◌ {A = ℕ} 0 1 = cc in absurd (omega arith)
-none_is Class.Local h = let z : ◌≡◌ {A = ℕ} 0 1 = cc in absurd (omega arith)
-none_is Class.Other h = let z : ◌≡◌ {A = ℕ} 0 1 = cc in absurd (omega arith)
+none_is Class.Item h = cc
+none_is Class.Const h = cc
+none_is Class.Local h = cc
+none_is Class.Other h = cc
 
 -- two bytes of one class
 of_two : (from b : ℕ) (v : Class) → v ≡ class_of (kind_of from) → v ≡ class_of (kind_of (suc from)) → from ≤ b → b < from + 2 → v ≡ class_of (kind_of b)

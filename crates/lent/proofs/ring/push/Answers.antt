@@ -1,11 +1,8 @@
 -- `lent::ring::push` meets its contract: a comment's words behind the last comment's. Assumes nothing.
-use Rattle.text.proofs.Base.{rules, arith}
+use Rattle.text.proofs.Base.{rules}
 use Rattle.lent.proofs.{RingLaws.push_law}
 use Rattle.lent.specs.View.{as_comment}
 use Rattle.lent.proofs.ring.push.Goals as goal
-
-pub store-requires : goal.store-requires
-store-requires c = omega (arith, c.slot.ensures)
 
 pub returns : goal.returns
 returns c =

@@ -8,6 +8,6 @@ pub returns-then-kind-eq-EXPR_FIELD : goal.returns-then-kind-eq-EXPR_FIELD
 unfolding is_dot byte_of facts_of
 returns-then-kind-eq-EXPR_FIELD c = rw c.if-kind-eq-EXPR_FIELD.true
 
-pub returns : goal.returns
+pub returns-else-kind-eq-EXPR_FIELD : goal.returns-else-kind-eq-EXPR_FIELD
 unfolding is_dot byte_of facts_of
-returns c = rw (ne_eqb _ _ c.if-kind-eq-EXPR_FIELD.false)
+returns-else-kind-eq-EXPR_FIELD c = rw (ne_eqb _ _ c.if-kind-eq-EXPR_FIELD.false)

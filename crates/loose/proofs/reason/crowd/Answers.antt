@@ -1,6 +1,6 @@
 -- `loose::reason::crowd` meets its contract. The invariant: from here on the records say what they say from the first on. Assumes nothing.
 use Rattle.loose.proofs.ReasonLaws.{crowd_comment, crowd_fits, crowd_next, crowd_sixth, crowd_starts, goes_behind, within}
-use Rattle.text.proofs.Base.{◌-◌, arith, inl, inr}
+use Rattle.text.proofs.Base.{arith, inl, inr}
 use Rattle.kinds.specs.Facts.{byte_of, facts_of}
 use Rattle.loose.proofs.reason.crowd.Goals as goal
 use Rattle.loose.proofs.reason.crowd.Goals.{then-is_entry+else-entries-eq5, else-is_entry}

@@ -12,6 +12,6 @@ pub returns-then-kind-eq-EXPR : goal.returns-then-kind-eq-EXPR
 unfolding is_entry byte_of facts_of
 returns-then-kind-eq-EXPR c = rw (c.if-keys.false, c.if-kind-eq-EXPR.true)
 
-pub returns : goal.returns
+pub returns-else-kind-eq-EXPR : goal.returns-else-kind-eq-EXPR
 unfolding is_entry byte_of facts_of
-returns c = rw (c.if-keys.false, ne_eqb _ _ c.if-kind-eq-EXPR.false)
+returns-else-kind-eq-EXPR c = rw (c.if-keys.false, ne_eqb _ _ c.if-kind-eq-EXPR.false)

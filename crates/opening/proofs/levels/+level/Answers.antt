@@ -1,74 +1,59 @@
 -- `opening::levels::level` meets its contract. The loop's invariant: the siblings that are left say what all of them say.
 use mathlib.Core.Path.{refl}
 use native.Mathlib.Omega.{arith}
-use Rattle.opening.proofs.WalkLaws.{begin, done, meets, bad_one, too_deep, inside_asks, inside_holds, none_below, bad_below, deep_below, behind_asks, less, goes_on}
+use Rattle.std.proofs.lemmas.Result.{err_from_is_err_and}
+use Rattle.opening.proofs.WalkLaws.{done, meets, bad_one, too_deep, inside_asks, inside_holds, none_below, refused_below, behind_asks, goes_on}
 use Rattle.opening.proofs.levels.+level.Goals as goal
 
-pub loop-part-init : goal.loop-part-init
-loop-part-init t c = begin c.requires
-
-pub returns-in-Bad : goal.returns-in-Bad
-returns-in-Bad t c = bad_one c.loop-part.invariant c.loop-part-test.true c.look-n.ensures c.in-Bad.is
+pub returns-in_err-r : goal.returns-in_err-r
+returns-in_err-r t c =
+    let p = err_from_is_err_and c.from_residual.result c.from_residual.ensures.1 in
+    rw (p.1, p.2) (bad_one c.loop-part.invariant c.loop-part-test.true c.look.ensures c.in_err-r.was)
 
 pub returns-then-d-eq0 : goal.returns-then-d-eq0
 returns-then-d-eq0 t c =
-    let m = meets c.loop-part.invariant c.loop-part-test.true c.look-n.ensures c.in-Keeps.is in
+    let m = meets c.loop-part.invariant c.loop-part-test.true c.look.ensures c.in_ok-r.was in
     too_deep m c.if-d-eq0.true
 
 pub inside-below-requires : goal.inside-below-requires
 inside-below-requires t c =
-    let m = meets c.loop-part.invariant c.loop-part-test.true c.look-n.ensures c.in-Keeps.is in
+    let m = meets c.loop-part.invariant c.loop-part-test.true c.look.ensures c.in_ok-r.was in
     inside_asks m (omega (arith, c.well_formed))
 
 pub behind-part-requires : goal.behind-part-requires
 behind-part-requires t c =
-    let m = meets c.loop-part.invariant c.loop-part-test.true c.look-n.ensures c.in-Keeps.is in
+    let m = meets c.loop-part.invariant c.loop-part-test.true c.look.ensures c.in_ok-r.was in
     behind_asks m c.if-d-eq0.false c.inside-below.ensures
     (none_below m c.inside-below.ensures c.if-below-eq0.true) refl
 
-pub loop-part-smaller-then-below-eq0 : goal.loop-part-smaller-then-below-eq0
-loop-part-smaller-then-below-eq0 t c =
-    let m = meets c.loop-part.invariant c.loop-part-test.true c.look-n.ensures c.in-Keeps.is in
-    less m c.if-d-eq0.false c.inside-below.ensures (none_below m c.inside-below.ensures c.if-below-eq0.true) refl
-    c.behind-part.ensures
-
 pub loop-part-preserved-then-below-eq0 : goal.loop-part-preserved-then-below-eq0
 loop-part-preserved-then-below-eq0 t c =
-    let m = meets c.loop-part.invariant c.loop-part-test.true c.look-n.ensures c.in-Keeps.is in
+    let m = meets c.loop-part.invariant c.loop-part-test.true c.look.ensures c.in_ok-r.was in
     goes_on m c.if-d-eq0.false c.inside-below.ensures (none_below m c.inside-below.ensures c.if-below-eq0.true) refl
     c.behind-part.ensures
 
-pub level-w-requires : goal.level-w-requires
-level-w-requires t c =
-    let m = meets c.loop-part.invariant c.loop-part-test.true c.look-n.ensures c.in-Keeps.is in (
+pub level-requires : goal.level-requires
+level-requires t c =
+    let m = meets c.loop-part.invariant c.loop-part-test.true c.look.ensures c.in_ok-r.was in (
       omega arith,
       inside_holds m c.inside-below.ensures,
     )
 
-pub behind-part-requires-in-Good : goal.behind-part-requires-in-Good
-behind-part-requires-in-Good t c =
-    let m = meets c.loop-part.invariant c.loop-part-test.true c.look-n.ensures c.in-Keeps.is in
-    behind_asks m c.if-d-eq0.false c.inside-below.ensures c.level-w.ensures c.in-Good.is
+pub returns-in_err-level : goal.returns-in_err-level
+returns-in_err-level t c =
+    let m = meets c.loop-part.invariant c.loop-part-test.true c.look.ensures c.in_ok-r.was in
+    let p = err_from_is_err_and c.from_residual-in_err-level.result c.from_residual-in_err-level.ensures.1 in
+    rw (p.1, p.2) (refused_below m c.if-d-eq0.false c.inside-below.ensures c.level.ensures c.in_err-level.was)
 
-pub loop-part-smaller : goal.loop-part-smaller
-loop-part-smaller t c =
-    let m = meets c.loop-part.invariant c.loop-part-test.true c.look-n.ensures c.in-Keeps.is in
-    less m c.if-d-eq0.false c.inside-below.ensures c.level-w.ensures c.in-Good.is c.behind-part-in-Good.ensures
+pub behind-part-requires-else-below-eq0 : goal.behind-part-requires-else-below-eq0
+behind-part-requires-else-below-eq0 t c =
+    let m = meets c.loop-part.invariant c.loop-part-test.true c.look.ensures c.in_ok-r.was in
+    behind_asks m c.if-d-eq0.false c.inside-below.ensures c.level.ensures c.in_ok-level.was
 
 pub loop-part-preserved : goal.loop-part-preserved
 loop-part-preserved t c =
-    let m = meets c.loop-part.invariant c.loop-part-test.true c.look-n.ensures c.in-Keeps.is in
-    goes_on m c.if-d-eq0.false c.inside-below.ensures c.level-w.ensures c.in-Good.is c.behind-part-in-Good.ensures
-
-pub returns-in-Bad-w : goal.returns-in-Bad-w
-returns-in-Bad-w t c =
-    let m = meets c.loop-part.invariant c.loop-part-test.true c.look-n.ensures c.in-Keeps.is in
-    bad_below m c.if-d-eq0.false c.inside-below.ensures c.level-w.ensures c.in-Bad-w.is
-
-pub returns-in-Deep : goal.returns-in-Deep
-returns-in-Deep t c =
-    let m = meets c.loop-part.invariant c.loop-part-test.true c.look-n.ensures c.in-Keeps.is in
-    deep_below m c.if-d-eq0.false c.inside-below.ensures c.level-w.ensures c.in-Deep.is
+    let m = meets c.loop-part.invariant c.loop-part-test.true c.look.ensures c.in_ok-r.was in
+    goes_on m c.if-d-eq0.false c.inside-below.ensures c.level.ensures c.in_ok-level.was c.behind-part-else-below-eq0.ensures
 
 pub returns : goal.returns
 returns t c = done c.loop-part.invariant (omega arith)

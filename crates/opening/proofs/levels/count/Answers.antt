@@ -1,7 +1,5 @@
 -- `opening::levels::count` meets its contract. The invariant: what is counted and what is still to count make up the whole. Assumes nothing.
-use Prim.Native.Nat.{◌-◌}
 use Rattle.tree.proofs.RecordLaws.{node_next, records_few, records_none}
-use Rattle.tree.specs.Records.{records}
 use lib.ListN.{length}
 use mathlib.Core.Path.{ap}
 use native.Mathlib.Omega.{arith}

@@ -1,7 +1,6 @@
 -- `opening::levels::look` meets its contract: too many, one that keeps the rules, one that breaks one. Assumes nothing.
 use Rattle.opening.proofs.WalkLaws.{look_bad, look_kept, look_many}
 use mathlib.Core.Path.{◌∙◌, sym}
-use borrow.Author.Rules.{rules}
 use Rattle.opening.proofs.levels.look.Goals as goal
 
 pub returns-then-first-ge8192 : goal.returns-then-first-ge8192

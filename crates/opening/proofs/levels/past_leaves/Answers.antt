@@ -1,23 +1,12 @@
 -- `opening::levels::past_leaves` meets its contract. The invariant: the leaves passed and what is still to count make up the whole.
 -- Assumes nothing.
-use Prim.Native.Nat.{◌-◌}
 use Rattle.tree.proofs.RecordLaws.{leaf_next, records_few}
-use Rattle.tree.specs.Records.{records}
-use lib.ListN.{drop, length, length-drop}
+use lib.ListN.{drop, length-drop}
 use native.Mathlib.Omega.{arith}
 use Rattle.opening.proofs.levels.past_leaves.Goals as goal
-
-pub loop-at-init : goal.loop-at-init
-loop-at-init c = (omega arith, omega arith)
-
-pub returns-then-list-at-ge128 : goal.returns-then-list-at-ge128
-returns-then-list-at-ge128 c = record { forth = c.loop-at.invariant.0; counted = c.loop-at.invariant.1; stops = λ h. c.if-list-at-ge128.true }
 
 pub overflow_add-n : goal.overflow_add-n
 overflow_add-n c = omega (arith, c.loop-at.invariant.1, records_few 0 (drop c.args.from c.args.list.now), length-drop c.args.from c.args.list.now)
 
 pub loop-at-preserved : goal.loop-at-preserved
-loop-at-preserved c = (omega arith, omega (arith, c.loop-at.invariant.1, leaf_next c.args.list.now c.loop-at.at c.loop-at-test.true c.if-list-at-ge128.false))
-
-pub returns : goal.returns
-returns c = record { forth = c.loop-at.invariant.0; counted = c.loop-at.invariant.1; stops = λ h. absurd (omega arith) }
+loop-at-preserved c = (omega arith, omega (arith, c.loop-at.invariant.1, leaf_next c.args.list.now c.loop-at.at c.loop-at-test.true c.if-list-at-lt128.true))

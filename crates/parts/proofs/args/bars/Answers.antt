@@ -14,7 +14,7 @@ unfolding barred byte_of facts_of
 returns-then-next_is c = parsed _ _ c.records_of-p.ensures (next_so _ _ _ c.next_is.ensures c.if-next_is.true c.any.ensures) c.left_over.ensures
 
 pub loop-fmt-init : goal.loop-fmt-init
-loop-fmt-init c = no_item_lem _ c.fresh-comma.ensures
+loop-fmt-init c = no_item_lem
 
 pub loop-fmt-smaller : goal.loop-fmt-smaller
 unfolding byte_of facts_of

@@ -5,4 +5,4 @@ use Rattle.parts.proofs.spaced.between.Goals as goal
 
 pub returns : goal.returns
 unfolding between
-returns c = steady c.ws.ensures ▹ c.token.ensures ▹ steady c.ws-2.ensures
+returns g c = steady c.ws.ensures ▹ c.token.ensures ▹ steady c.ws-2.ensures

@@ -5,4 +5,4 @@ use Rattle.parts.proofs.spaced.word.Goals as goal
 
 pub returns : goal.returns
 unfolding word
-returns c = c.token.ensures ▹ steady c.ws.ensures
+returns g c = c.token.ensures ▹ steady c.ws.ensures

@@ -3,10 +3,10 @@ use Rattle.steps.proofs.Rules.{byte_of, facts_of, eaten, eaten_not}
 use Rattle.paths.specs.Attribute.{modifiers}
 use Rattle.paths.proofs.modifier.modifiers.Goals as goal
 
-pub returns-then-is_some : goal.returns-then-is_some
+pub returns-in-Some : goal.returns-in-Some
 unfolding modifiers byte_of facts_of
-returns-then-is_some c = eaten _ _ _ c.eat-k.ensures c.is_some.ensures c.if-is_some.true c.modifier_list.ensures
+returns-in-Some c = eaten _ _ _ c.eat.ensures c.in-Some.is c.modifier_list.ensures
 
-pub returns-else-is_some : goal.returns-else-is_some
+pub returns-in_default : goal.returns-in_default
 unfolding modifiers byte_of facts_of
-returns-else-is_some c = eaten_not _ _ _ c.eat-k.ensures c.is_some.ensures c.if-is_some.false
+returns-in_default c = eaten_not _ _ _ c.eat.ensures c.in_default.not-Some

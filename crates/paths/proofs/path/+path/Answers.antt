@@ -7,24 +7,24 @@ use Rattle.paths.proofs.path.+path.Goals as goal
 pub path-returns-then-depth-eq0 : goal.path-returns-then-depth-eq0
 path-returns-then-depth-eq0 t c = path_none _ _ c.if-depth-eq0.true c.refuse.ensures
 
-pub path-loop-fmt-init : goal.path-loop-fmt-init
-path-loop-fmt-init t c = starts
+pub path-loop-p-init : goal.path-loop-p-init
+path-loop-p-init t c = starts
 
-pub path-loop-fmt-smaller : goal.path-loop-fmt-smaller
-path-loop-fmt-smaller t c =
-    let rs = tree_of c.args.table.now in falls (pump_falls _ (path_part rs (path_generics rs (c.args.depth - 1)))) c.has_next.ensures c.loop-fmt-test.true (pumped _ c.pump-n.ensures c.path_part.ensures)
+pub path-loop-p-smaller : goal.path-loop-p-smaller
+path-loop-p-smaller t c =
+    let rs = tree_of c.args.table.now in falls (pump_falls _ (path_part rs (path_generics rs (c.args.depth - 1)))) c.has_next.ensures c.loop-p-test.true (pumped _ c.pump-n.ensures c.path_part.ensures)
 
-pub path-loop-fmt-preserved : goal.path-loop-fmt-preserved
-path-loop-fmt-preserved t c =
-    let rs = tree_of c.args.table.now in goes_on (pump_falls _ (path_part rs (path_generics rs (c.args.depth - 1)))) c.has_next.ensures c.loop-fmt-test.true (pumped _ c.pump-n.ensures c.path_part.ensures) c.loop-fmt.invariant
+pub path-loop-p-preserved : goal.path-loop-p-preserved
+path-loop-p-preserved t c =
+    let rs = tree_of c.args.table.now in goes_on (pump_falls _ (path_part rs (path_generics rs (c.args.depth - 1)))) c.has_next.ensures c.loop-p-test.true (pumped _ c.pump-n.ensures c.path_part.ensures) c.loop-p.invariant
 
 pub path-returns : goal.path-returns
 unfolding path_rule
 path-returns t c =
-    path_some _ _ _ c.if-depth-eq0.false (parsed _ _ c.records_of-p.ensures (done c.has_next.ensures c.loop-fmt-test.false c.loop-fmt.invariant) c.left_over.ensures)
+    path_some _ _ _ c.if-depth-eq0.false (parsed _ _ c.records_of-p.ensures (done c.has_next.ensures c.loop-p-test.false c.loop-p.invariant) c.left_over.ensures)
 
 pub path_generics-loop-fmt-init : goal.path_generics-loop-fmt-init
-path_generics-loop-fmt-init t c = no_item_lem _ c.fresh-comma.ensures
+path_generics-loop-fmt-init t c = no_item_lem
 
 pub path_generics-loop-fmt-smaller : goal.path_generics-loop-fmt-smaller
 unfolding byte_of facts_of

@@ -1,8 +1,8 @@
 -- `patterns::fn_args::fn_args` meets its contract. Assumes nothing.
-use Rattle.steps.proofs.Rules.{byte_of, facts_of, is, ignore, turn, listed, ◌▹◌}
+use Rattle.steps.proofs.Rules.{byte_of, facts_of, ignore, ◌▹◌}
 use Rattle.steps.proofs.Rules.{pumped, parsed, rest_then, no_item_lem, next_item, item_less, listed_all}
 use Rattle.steps.specs.declared.remaining.Mark.TheVariants.{Comma}
-use Rattle.patterns.specs.Pattern.{pat, no_comma, fn_args}
+use Rattle.patterns.specs.Pattern.{no_comma, fn_args}
 use Rattle.patterns.proofs.fn_args.fn_args.Goals as goal
 
 pub returns : goal.returns
@@ -10,7 +10,7 @@ unfolding fn_args no_comma byte_of facts_of
 returns c = parsed _ _ c.records_of-p.ensures (c.token.ensures ▹ rest_then ignore c.take_remaining-first.ensures (c.pass.ensures Comma) ▹ listed_all _ _ c.next_is.ensures c.loop-fmt-test.false c.loop-fmt.invariant c.close_list.ensures ▹ c.token-2.ensures) c.left_over.ensures
 
 pub loop-fmt-init : goal.loop-fmt-init
-loop-fmt-init c = no_item_lem _ c.fresh-comma.ensures
+loop-fmt-init c = no_item_lem
 
 pub loop-fmt-smaller : goal.loop-fmt-smaller
 unfolding byte_of facts_of

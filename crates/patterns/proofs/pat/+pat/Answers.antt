@@ -1,5 +1,5 @@
 -- The cycle of `patterns::pat`: each member meets its contract. Assumes nothing.
-use Rattle.steps.proofs.Rules.{byte_of, facts_of, nothing_made, ◌▹◌, steady, expected, next_so, next_not, ◌-◌, pumped, parsed, tree_of, remaining_of, no_item_lem, next_item, item_less, listed_all, sym, ◌∙◌, inl, inr, ne_eqb, kind_is, kind_other, rests_with, next_turn, turn_less, items_done, none_counted, next_counted, counted}
+use Rattle.steps.proofs.Rules.{byte_of, facts_of, nothing_made, ◌▹◌, steady, expected, next_so, next_not, pumped, parsed, tree_of, remaining_of, no_item_lem, next_item, item_less, listed_all, sym, ◌∙◌, inl, inr, ne_eqb, kind_is, kind_other, rests_with, next_turn, turn_less, items_done, none_counted, next_counted, counted}
 use Rattle.patterns.specs.Pattern.{colon_pat, is_key, object_item, pat as rule, pat_item, pat_array, pat_child, key_or_dots, keyed, silent, pat_object, tuple_rule}
 use Rattle.patterns.proofs.PatLaws.{too_deep, deep, keyed_item, object_falls, object_ends, tuple_of, tuple_ends}
 use Rattle.steps.specs.declared.remaining.Mark.TheVariants.{Comma}
@@ -29,7 +29,7 @@ pat-returns t c =
     deep _ _ _ c.if-depth-eq0.false (parsed _ _ c.records_of-p.ensures (c.pat_attributes.ensures ▹ pumped _ c.pump-n.ensures c.pat_child.ensures) c.left_over.ensures)
 
 pub pat_array-loop-fmt-init : goal.pat_array-loop-fmt-init
-pat_array-loop-fmt-init t c = no_item_lem _ c.fresh-comma.ensures
+pat_array-loop-fmt-init t c = no_item_lem
 
 pub pat_array-loop-fmt-smaller : goal.pat_array-loop-fmt-smaller
 pat_array-loop-fmt-smaller t c =
@@ -83,7 +83,7 @@ unfolding pat_item byte_of facts_of
 pat_item-returns t c = kind_other _ _ _ _ c.kind_at.ensures c.if-kind_at-eq-DOTDOT.false c.pat.ensures
 
 pub pat_object-loop-fmt-init : goal.pat_object-loop-fmt-init
-pat_object-loop-fmt-init t c = no_item_lem _ c.fresh-comma.ensures
+pat_object-loop-fmt-init t c = no_item_lem
 
 pub pat_object-loop-fmt-smaller : goal.pat_object-loop-fmt-smaller
 pat_object-loop-fmt-smaller t c =
@@ -101,7 +101,7 @@ pat_object-returns t c =
     parsed _ _ c.records_of-p.ensures (c.object_name.ensures ▹ c.token.ensures ▹ items_done _ _ _ c.key_or_dots.ensures c.loop-fmt-test.false c.loop-fmt.invariant.going ▹ object_ends c.close_object.ensures ▹ c.put_remaining.ensures) c.left_over.ensures
 
 pub pat_tuple-loop-fmt-init : goal.pat_tuple-loop-fmt-init
-pat_tuple-loop-fmt-init t c = none_counted _ c.fresh-comma.ensures
+pat_tuple-loop-fmt-init t c = none_counted
 
 pub pat_tuple-loop-fmt-smaller : goal.pat_tuple-loop-fmt-smaller
 pat_tuple-loop-fmt-smaller t c =

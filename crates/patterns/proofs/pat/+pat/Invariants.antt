@@ -1,5 +1,5 @@
 use Rattle.std.proofs.Common.{◌+◌, ◌*◌}
-use Rattle.steps.proofs.Rules.{◌-◌, length, tree_of, script_of, engine, stream_at, remaining_of, turn, listed, suffix, Listing, few_of, Counting}
+use Rattle.steps.proofs.Rules.{length, tree_of, script_of, engine, stream_at, remaining_of, turn, listed, suffix, Listing, Counting}
 use Rattle.patterns.specs.Pattern.{pat as rule, pat_or_dots, pat_item, key_or_dots, keyed, silent}
 use Rattle.steps.specs.declared.remaining.Mark.TheVariants.{Comma}
 use Rattle.patterns.proofs.pat.+pat.Given as goal
@@ -41,7 +41,7 @@ abbrev pub decreases-pat_object-loop-fmt : goal.decreases-pat_object-loop-fmt
 decreases-pat_object-loop-fmt l = length (stream_at (tree_of l.table) l.p).left
 
 abbrev pub invariant-pat_tuple-loop-fmt : goal.invariant-pat_tuple-loop-fmt
-invariant-pat_tuple-loop-fmt l = let rs = tree_of l.table in Counting (script_of l.src l.table) (pat_or_dots rs) (turn rs (listed (pat_item rs (rule rs l.depth))) suffix) (stream_at rs l.initial.p) (engine l.initial.fmt l.initial.queue l.initial.out) (stream_at rs l.p) (engine l.fmt l.queue l.out) (remaining_of Comma l.comma) (few_of l.count)
+invariant-pat_tuple-loop-fmt l = let rs = tree_of l.table in Counting (script_of l.src l.table) (pat_or_dots rs) (turn rs (listed (pat_item rs (rule rs l.depth))) suffix) (stream_at rs l.initial.p) (engine l.initial.fmt l.initial.queue l.initial.out) (stream_at rs l.p) (engine l.fmt l.queue l.out) (remaining_of Comma l.comma) l.count
 
 abbrev pub decreases-pat_tuple-loop-fmt : goal.decreases-pat_tuple-loop-fmt
 decreases-pat_tuple-loop-fmt l = length (stream_at (tree_of l.table) l.p).left

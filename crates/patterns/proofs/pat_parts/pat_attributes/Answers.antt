@@ -1,5 +1,5 @@
 -- `patterns::pat_parts::pat_attributes` meets its contract. Assumes nothing.
-use Rattle.steps.proofs.Rules.{length, byte_of, facts_of, Ws, make, write, pump, is, ◌▹◌}
+use Rattle.steps.proofs.Rules.{byte_of, facts_of, Ws, make, write, ◌▹◌}
 use Rattle.steps.proofs.Rules.{steady, kept_length, starts, goes_on, done, falls, pump_then_falls}
 use Rattle.patterns.specs.Pattern.{pat_attributes}
 use Rattle.patterns.proofs.pat_parts.pat_attributes.Goals as goal

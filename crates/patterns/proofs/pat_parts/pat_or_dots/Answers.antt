@@ -5,8 +5,8 @@ use Rattle.patterns.proofs.pat_parts.pat_or_dots.Goals as goal
 
 pub returns-then-next_is : goal.returns-then-next_is
 unfolding pat_or_dots byte_of facts_of
-returns-then-next_is c = let rs = tree_of c.args.table.now in either_first (is rs Kind.Pat) (is rs Kind.DotDot) (stream_at rs c.args.p.now) c.next_is.ensures c.if-next_is.true
+returns-then-next_is c = let rs = tree_of c.args.table.now in rw c.if-next_is.true (either_first (is rs Kind.Pat) (is rs Kind.DotDot) (stream_at rs c.args.p.now) c.next_is.ensures c.if-next_is.true)
 
-pub returns : goal.returns
+pub returns-else-next_is : goal.returns-else-next_is
 unfolding pat_or_dots byte_of facts_of
-returns c = let rs = tree_of c.args.table.now in either_second (is rs Kind.Pat) (is rs Kind.DotDot) (stream_at rs c.args.p.now) c.next_is.ensures c.if-next_is.false c.next_is-2.ensures
+returns-else-next_is c = let rs = tree_of c.args.table.now in either_second (is rs Kind.Pat) (is rs Kind.DotDot) (stream_at rs c.args.p.now) c.next_is.ensures c.if-next_is.false c.next_is-else-next_is.ensures

@@ -2,10 +2,10 @@
 use Rattle.steps.proofs.Rules.{byte_of, facts_of, eaten, eaten_not}
 use Rattle.patterns.proofs.pat_parts.path_if.Goals as goal
 
-pub returns-then-is_some : goal.returns-then-is_some
+pub returns-in-Some : goal.returns-in-Some
 unfolding byte_of facts_of
-returns-then-is_some c = eaten _ _ _ c.eat-k.ensures c.is_some.ensures c.if-is_some.true c.path.ensures
+returns-in-Some c = eaten _ _ _ c.eat.ensures c.in-Some.is c.path.ensures
 
-pub returns-else-is_some : goal.returns-else-is_some
+pub returns-in_default : goal.returns-in_default
 unfolding byte_of facts_of
-returns-else-is_some c = eaten_not _ _ _ c.eat-k.ensures c.is_some.ensures c.if-is_some.false
+returns-in_default c = eaten_not _ _ _ c.eat.ensures c.in_default.not-Some

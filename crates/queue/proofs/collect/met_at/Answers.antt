@@ -8,26 +8,14 @@ pub returns-then-r-gt0 : goal.returns-then-r-gt0
 unfolding met_of
 returns-then-r-gt0 c = at_inner _ _ _ _ c.if-r-gt0.true
 
-pub returns-then-r-eq0 : goal.returns-then-r-eq0
+pub returns-in-0 : goal.returns-in-0
 unfolding met_of
-returns-then-r-eq0 c =
+returns-in-0 c =
     let z : c.args.r.below ≡ 0 = omega arith in
-    rw (z, c.if-r-eq0.true) (ap blank c.newlines_in.ensures)
+    rw (z, c.in-0.is) (ap blank c.newlines_in.ensures)
 
-pub returns-then-r-eq1 : goal.returns-then-r-eq1
+pub returns-in_default : goal.returns-in_default
 unfolding met_of
-returns-then-r-eq1 c =
+returns-in_default c =
     let z : c.args.r.below ≡ 0 = omega arith in
-    rw (z, c.if-r-eq1.true)
-
-pub returns-then-r-eq2 : goal.returns-then-r-eq2
-unfolding met_of
-returns-then-r-eq2 c =
-    let z : c.args.r.below ≡ 0 = omega arith in
-    rw (z, c.if-r-eq2.true)
-
-pub returns : goal.returns
-unfolding met_of
-returns c =
-    let z : c.args.r.below ≡ 0 = omega arith in
-    rw z (at_stop _ _ _ c.if-r-eq0.false c.if-r-eq1.false c.if-r-eq2.false)
+    rw z (at_stop _ _ _ (omega arith))

@@ -9,6 +9,3 @@ overflow_cast-result c =
     let e : c.count_newlines.result ≡ newlines (text_of c.args.src.now c.args.span) = c.count_newlines.ensures
     ∙ ap newlines c.part.ensures in
     omega (arith, newlines_fit c.args.src.now c.args.span)
-
-pub returns : goal.returns
-returns c = c.count_newlines.ensures ∙ ap newlines c.part.ensures

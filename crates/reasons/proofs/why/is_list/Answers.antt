@@ -8,6 +8,6 @@ pub returns-then-kind-eq-EXPR_CALL : goal.returns-then-kind-eq-EXPR_CALL
 unfolding is_list byte_of facts_of
 returns-then-kind-eq-EXPR_CALL c = rw c.if-kind-eq-EXPR_CALL.true
 
-pub returns : goal.returns
+pub returns-else-kind-eq-EXPR_CALL : goal.returns-else-kind-eq-EXPR_CALL
 unfolding is_list byte_of facts_of
-returns c = rw (ne_eqb _ _ c.if-kind-eq-EXPR_CALL.false)
+returns-else-kind-eq-EXPR_CALL c = rw (ne_eqb _ _ c.if-kind-eq-EXPR_CALL.false)

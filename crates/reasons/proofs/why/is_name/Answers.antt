@@ -8,6 +8,6 @@ pub returns-then-kind-eq-ANON_KEY : goal.returns-then-kind-eq-ANON_KEY
 unfolding is_name byte_of facts_of
 returns-then-kind-eq-ANON_KEY c = rw c.if-kind-eq-ANON_KEY.true
 
-pub returns : goal.returns
+pub returns-else-kind-eq-ANON_KEY : goal.returns-else-kind-eq-ANON_KEY
 unfolding is_name byte_of facts_of
-returns c = rw (ne_eqb _ _ c.if-kind-eq-ANON_KEY.false)
+returns-else-kind-eq-ANON_KEY c = rw (ne_eqb _ _ c.if-kind-eq-ANON_KEY.false)

@@ -2,8 +2,8 @@
 use Rattle.steps.proofs.{RestLaws.pass_there, RestLaws.pass_not}
 use Rattle.steps.proofs.remaining.pass.Goals as goal
 
-pub returns-then-r-lt8192 : goal.returns-then-r-lt8192
-returns-then-r-lt8192 c = λ m. pass_there m c.args.r c.if-r-lt8192.true c.ignore.ensures
+pub returns-in-There : goal.returns-in-There
+returns-in-There c = λ m. pass_there m c.in-There.is c.ignore.ensures
 
-pub returns-else-r-lt8192 : goal.returns-else-r-lt8192
-returns-else-r-lt8192 c = λ m. pass_not m c.args.r c.if-r-lt8192.false
+pub returns-in_default : goal.returns-in_default
+returns-in_default c = λ m. pass_not m c.in_default.not-There

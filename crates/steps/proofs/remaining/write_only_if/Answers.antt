@@ -5,5 +5,5 @@ use Rattle.steps.proofs.remaining.write_only_if.Goals as goal
 pub returns-then-wanted : goal.returns-then-wanted
 returns-then-wanted c = only_yes _ c.if-wanted.true c.put.ensures
 
-pub returns : goal.returns
-returns c = only_no _ c.if-wanted.false (c.pass.ensures _)
+pub returns-else-wanted : goal.returns-else-wanted
+returns-else-wanted c = only_no _ c.if-wanted.false (c.pass.ensures _)

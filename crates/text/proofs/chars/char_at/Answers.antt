@@ -7,9 +7,6 @@ use Rattle.text.proofs.chars.char_at.Goals as goal
 pub returns-then-b-lt128 : goal.returns-then-b-lt128
 returns-then-b-lt128 c = char_plain c.args.s.now c.args.i (omega arith) c.if-b-lt128.true
 
-pub overflow_cast-result-then-n-eq0 : goal.overflow_cast-result-then-n-eq0
-overflow_cast-result-then-n-eq0 c = omega (arith, c.shared_slice_known-1.given c.args.i)
-
 pub returns-then-n-eq0 : goal.returns-then-n-eq0
 returns-then-n-eq0 c = char_ill c.args.s.now c.args.i c.char_len-n.result c.char_len-n.ensures c.if-n-eq0.true
 

@@ -1,33 +1,19 @@
 -- `text::chars::code_at` meets its contract: each length by its own formula. Assumes nothing.
-use Prim.Native.Nat.{◌+◌}
 use Rattle.text.proofs.CharLaws.{code_at}
 use borrow.Author.Tests.{le-ltb, lt-ltb}
 use mathlib.Core.Path.{sym}
-use native.Mathlib.Omega.{arith}
 use Rattle.text.proofs.chars.code_at.Goals as goal
-
-pub overflow_cast-a : goal.overflow_cast-a
-overflow_cast-a c = omega (arith, c.shared_slice_known-1.given c.args.i)
 
 pub returns-then-n-lt2 : goal.returns-then-n-lt2
 returns-then-n-lt2 c = sym (rw (lt-ltb _ _ c.if-n-lt2.true) at (code_at c.args.n c.args.i c.args.s.now))
 
-pub overflow_cast-b : goal.overflow_cast-b
-overflow_cast-b c = omega (arith, c.shared_slice_known-2-1.given (c.args.i + 1))
-
 pub returns-then-n-lt3 : goal.returns-then-n-lt3
 returns-then-n-lt3 c = sym (rw (le-ltb _ _ c.if-n-lt2.false, lt-ltb _ _ c.if-n-lt3.true) at (code_at c.args.n c.args.i c.args.s.now))
-
-pub overflow_cast-c : goal.overflow_cast-c
-overflow_cast-c c = omega (arith, c.shared_slice_known-3-1.given (c.args.i + 2))
 
 pub returns-then-n-lt4 : goal.returns-then-n-lt4
 returns-then-n-lt4 c =
     sym (rw (le-ltb _ _ c.if-n-lt2.false, le-ltb _ _ c.if-n-lt3.false, lt-ltb _ _ c.if-n-lt4.true) at
     (code_at c.args.n c.args.i c.args.s.now))
-
-pub overflow_cast-d : goal.overflow_cast-d
-overflow_cast-d c = omega (arith, c.shared_slice_known-4-1.given (c.args.i + 3))
 
 pub returns : goal.returns
 returns c =

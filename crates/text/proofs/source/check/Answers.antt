@@ -11,12 +11,12 @@ unfolding checked
 returns-then-s-gt65536 c = sym (rw (lt-ltb _ _ c.if-s-gt65536.true))
 
 pub overflow_cast-result : goal.overflow_cast-result
-overflow_cast-result c = omega (arith, (ill_first c.args.s.now c.in-Ill.at (sym c.check-f.ensures ∙ c.in-Ill.is)).inside)
+overflow_cast-result c = omega (arith, (ill_first c.args.s.now c.in-Err.e.at (sym c.check.ensures ∙ c.in-Err.is)).inside)
 
-pub returns-in-Well : goal.returns-in-Well
+pub returns-in-Ok : goal.returns-in-Ok
 unfolding checked
-returns-in-Well c = sym (rw (le-ltb _ _ c.if-s-gt65536.false) (ap of_formed (sym c.check-f.ensures ∙ c.in-Well.is)))
+returns-in-Ok c = sym (rw (le-ltb _ _ c.if-s-gt65536.false) (ap of_formed (sym c.check.ensures ∙ c.in-Ok.is)))
 
-pub returns-in-Ill : goal.returns-in-Ill
+pub returns-in-Err : goal.returns-in-Err
 unfolding checked
-returns-in-Ill c = sym (rw (le-ltb _ _ c.if-s-gt65536.false) (ap of_formed (sym c.check-f.ensures ∙ c.in-Ill.is)))
+returns-in-Err c = sym (rw (le-ltb _ _ c.if-s-gt65536.false) (ap of_formed (sym c.check.ensures ∙ c.in-Err.is)))

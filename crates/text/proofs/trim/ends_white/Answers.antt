@@ -1,5 +1,6 @@
 -- `text::trim::ends_white` meets its contract. Assumes nothing.
 use Rattle.text.proofs.LastLaws.{ends_char, ends_other, ends_short}
+use borrow.Author.Tests.{ne_eqb}
 use mathlib.Core.Path.{◌∙◌}
 use native.Mathlib.Omega.{arith}
 use Rattle.text.proofs.trim.ends_white.Goals as goal
@@ -12,7 +13,5 @@ returns-then-c-n c =
     let last = c.char_at-c in
     c.is_white.ensures ∙ ends_char _ _ last.result (omega arith) last.ensures c.if-c-n.true
 
-pub returns : goal.returns
-returns c =
-    let last = c.char_at-c in
-    ends_other _ _ last.result (omega arith) last.ensures c.if-c-n.false
+pub returns-else-c-n : goal.returns-else-c-n
+returns-else-c-n c = rw (ne_eqb _ _ c.if-c-n.false) (ends_other _ _ c.char_at-c.result (omega arith) c.char_at-c.ensures c.if-c-n.false)

@@ -26,7 +26,7 @@ returns-then-kind-lt128 c =
 pub four_at-below-requires : goal.four_at-below-requires
 four_at-below-requires c = omega (arith, body_big (get_or c.args.list.now c.args.at 0) c.if-kind-lt128.false)
 
-pub returns : goal.returns
-returns c =
+pub returns-else-kind-lt128 : goal.returns-else-kind-lt128
+returns-else-kind-lt128 c =
     record_whole c.args.list.now c.args.at (omega arith) _ _ _ (omega arith) c.four_at.ensures
     c.four_at-2.ensures (rw (le-ltb _ _ c.if-kind-lt128.false) c.four_at-below.ensures)

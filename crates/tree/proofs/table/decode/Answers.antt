@@ -1,5 +1,4 @@
 -- `tree::table::decode` meets its contract. Assumes nothing.
-use Prim.Native.Nat.{◌-◌}
 use Rattle.tree.proofs.RecordLaws.{body_le}
 use Rattle.tree.proofs.TableLaws.{in_room, room_le, writing_end, writing_full, writing_more, writing_none}
 use lib.ListN.{length}
@@ -12,9 +11,6 @@ loop-n-init c = writing_none c.room-most.ensures
 pub overflow_cast-result : goal.overflow_cast-result
 overflow_cast-result c = omega (arith, in_room c.loop-n.invariant)
 
-pub shape_of-to-then-list-at : goal.shape_of-to-then-list-at
-shape_of-to-then-list-at c = c.loop-n.invariant.long
-
 pub returns-then-list-at : goal.returns-then-list-at
 returns-then-list-at c = writing_end c.loop-n.invariant (λ i. omega (arith, c.shared_slice_known-1.given i)) c.if-list-at.true
 
@@ -23,9 +19,6 @@ overflow_mul-n c = omega (arith, in_room c.loop-n.invariant)
 
 pub put-requires : goal.put-requires
 put-requires c = omega (arith, c.loop-n.invariant, room_le (length c.args.to.now))
-
-pub overflow_add-n : goal.overflow_add-n
-overflow_add-n c = omega (arith, in_room c.loop-n.invariant)
 
 pub overflow_add-at : goal.overflow_add-at
 overflow_add-at c = omega (arith, body_le c.record_at-r.result.kind)
@@ -40,9 +33,6 @@ loop-n-preserved c =
 
 pub overflow_cast-result-2 : goal.overflow_cast-result-2
 overflow_cast-result-2 c = omega (arith, in_room c.loop-n.invariant)
-
-pub shape_of-to : goal.shape_of-to
-shape_of-to c = c.loop-n.invariant.long
 
 pub returns : goal.returns
 returns c = writing_full c.loop-n.invariant (λ i. omega (arith, c.shared_slice_known-1.given i)) (omega arith)

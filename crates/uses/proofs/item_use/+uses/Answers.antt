@@ -5,7 +5,7 @@ use Rattle.uses.proofs.UseLaws.{grouped, use_none, use_some}
 use Rattle.uses.proofs.item_use.+uses.Goals as goal
 
 pub item_use_group-loop-fmt-init : goal.item_use_group-loop-fmt-init
-item_use_group-loop-fmt-init t c = no_item_lem _ c.fresh-comma.ensures
+item_use_group-loop-fmt-init t c = no_item_lem
 
 pub item_use_group-loop-fmt-smaller : goal.item_use_group-loop-fmt-smaller
 unfolding byte_of facts_of
@@ -25,20 +25,20 @@ item_use_group-returns t c =
 pub item_use_path-returns-then-depth-eq0 : goal.item_use_path-returns-then-depth-eq0
 item_use_path-returns-then-depth-eq0 t c = use_none _ _ c.if-depth-eq0.true c.node_of.ensures c.refuse.ensures
 
-pub item_use_path-loop-fmt-init : goal.item_use_path-loop-fmt-init
-item_use_path-loop-fmt-init t c = starts
+pub item_use_path-loop-p-init : goal.item_use_path-loop-p-init
+item_use_path-loop-p-init t c = starts
 
-pub item_use_path-loop-fmt-smaller : goal.item_use_path-loop-fmt-smaller
-item_use_path-loop-fmt-smaller t c =
-    let rs = tree_of c.args.table.now in falls (pump_falls _ (use_part rs (use_group rs (c.args.depth - 1)))) c.before_as.ensures c.loop-fmt-test.true (pumped _ c.pump-n.ensures c.use_part.ensures)
+pub item_use_path-loop-p-smaller : goal.item_use_path-loop-p-smaller
+item_use_path-loop-p-smaller t c =
+    let rs = tree_of c.args.table.now in falls (pump_falls _ (use_part rs (use_group rs (c.args.depth - 1)))) c.before_as.ensures c.loop-p-test.true (pumped _ c.pump-n.ensures c.use_part.ensures)
 
-pub item_use_path-loop-fmt-preserved : goal.item_use_path-loop-fmt-preserved
-item_use_path-loop-fmt-preserved t c =
-    let rs = tree_of c.args.table.now in goes_on (pump_falls _ (use_part rs (use_group rs (c.args.depth - 1)))) c.before_as.ensures c.loop-fmt-test.true (pumped _ c.pump-n.ensures c.use_part.ensures) c.loop-fmt.invariant
+pub item_use_path-loop-p-preserved : goal.item_use_path-loop-p-preserved
+item_use_path-loop-p-preserved t c =
+    let rs = tree_of c.args.table.now in goes_on (pump_falls _ (use_part rs (use_group rs (c.args.depth - 1)))) c.before_as.ensures c.loop-p-test.true (pumped _ c.pump-n.ensures c.use_part.ensures) c.loop-p.invariant
 
 pub item_use_path-returns : goal.item_use_path-returns
 unfolding use_path_rule use_parts
-item_use_path-returns t c = use_some _ _ c.if-depth-eq0.false (done c.before_as.ensures c.loop-fmt-test.false c.loop-fmt.invariant ▹ c.as_name.ensures)
+item_use_path-returns t c = use_some _ _ c.if-depth-eq0.false (done c.before_as.ensures c.loop-p-test.false c.loop-p.invariant ▹ c.as_name.ensures)
 
 pub use_node-returns : goal.use_node-returns
 use_node-returns t c = parsed _ _ c.records_of-p.ensures c.item_use_path.ensures c.left_over.ensures

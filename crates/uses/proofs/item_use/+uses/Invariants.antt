@@ -22,8 +22,8 @@ invariant-item_use_group-loop-fmt l = let rs = tree_of l.table in Listing (scrip
 abbrev pub decreases-item_use_group-loop-fmt : goal.decreases-item_use_group-loop-fmt
 decreases-item_use_group-loop-fmt l = length (stream_at (tree_of l.table) l.p).left
 
-abbrev pub invariant-item_use_path-loop-fmt : goal.invariant-item_use_path-loop-fmt
-invariant-item_use_path-loop-fmt l = let rs = tree_of l.table in Going (script_of l.src l.table) (λ (s : Stream). s) (λ (k : ℕ). not (is rs Kind.As k)) (pump (use_part rs (use_group rs (l.depth - 1)))) (stream_at rs l.initial.p) (engine l.initial.fmt l.initial.queue l.initial.out) (stream_at rs l.p) (engine l.fmt l.queue l.out)
+abbrev pub invariant-item_use_path-loop-p : goal.invariant-item_use_path-loop-p
+invariant-item_use_path-loop-p l = let rs = tree_of l.table in Going (script_of l.src l.table) (λ (s : Stream). s) (λ (k : ℕ). not (is rs Kind.As k)) (pump (use_part rs (use_group rs (l.depth - 1)))) (stream_at rs l.initial.p) (engine l.initial.fmt l.initial.queue l.initial.out) (stream_at rs l.p) (engine l.fmt l.queue l.out)
 
-abbrev pub decreases-item_use_path-loop-fmt : goal.decreases-item_use_path-loop-fmt
-decreases-item_use_path-loop-fmt l = length (stream_at (tree_of l.table) l.p).left
+abbrev pub decreases-item_use_path-loop-p : goal.decreases-item_use_path-loop-p
+decreases-item_use_path-loop-p l = length (stream_at (tree_of l.table) l.p).left

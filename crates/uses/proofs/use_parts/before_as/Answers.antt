@@ -2,10 +2,10 @@
 use Rattle.steps.proofs.Rules.{ap, not, ℕ, eqb, byte_of, facts_of, next_at, next_none}
 use Rattle.uses.proofs.use_parts.before_as.Goals as goal
 
-pub returns-then-is_some : goal.returns-then-is_some
+pub returns-in-Some : goal.returns-in-Some
 unfolding byte_of facts_of
-returns-then-is_some c = next_at c.peek-k.ensures c.is_some.ensures _ c.if-is_some.true (ap (λ (n : ℕ). not (eqb n 62)) c.kind_at.ensures)
+returns-in-Some c = next_at c.peek.ensures _ c.in-Some.is (ap (λ (n : ℕ). not (eqb n 62)) c.kind_at.ensures)
 
-pub returns : goal.returns
+pub returns-in-None : goal.returns-in-None
 unfolding byte_of facts_of
-returns c = next_none c.peek-k.ensures c.is_some.ensures _ c.if-is_some.false
+returns-in-None c = next_none c.peek.ensures _ c.in-None.is

@@ -3,4 +3,4 @@ use Rattle.walk.proofs.{FlowLaws.expected}
 use Rattle.walk.proofs.tokens.token.Goals as goal
 
 pub returns : goal.returns
-returns c = expected _ _ _ c.expect-k.ensures c.write_owned.ensures
+returns g c = expected _ _ _ c.expect-k.ensures c.write_owned.ensures

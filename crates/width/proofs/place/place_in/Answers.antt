@@ -1,7 +1,6 @@
 -- `width::place::place_in` meets its contract. Assumes nothing.
-use Rattle.text.proofs.Base.{◌+◌, ◌∙◌, ap, arith, ℕ}
+use Rattle.text.proofs.Base.{arith}
 use Rattle.width.proofs.PlaceLaws.{place_inside}
-use Rattle.width.specs.Count.{place_of}
 use Rattle.width.proofs.place.place_in.Goals as goal
 
 pub overflow_cast-result : goal.overflow_cast-result
@@ -9,6 +8,3 @@ overflow_cast-result c = omega (arith, place_inside c.args.src.now c.args.span _
 
 pub overflow_add-result : goal.overflow_add-result
 overflow_add-result c = omega (arith, place_inside c.args.src.now c.args.span _ c.part.ensures c.place_of-before.ensures)
-
-pub returns : goal.returns
-returns c = ap (λ (n : ℕ). record { 0 = c.args.span.start.0 + n }) (c.place_of-before.ensures ∙ ap (place_of _) c.part.ensures)

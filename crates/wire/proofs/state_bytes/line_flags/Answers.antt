@@ -1,26 +1,17 @@
--- `wire::state_bytes::line_flags` meets its contract. The invariant: the comments from k on say what all say. Assumes nothing.
-use Prim.Native.Nat.{◌-◌}
-use mathlib.Core.Path.{◌∙◌, sym}
-use Rattle.wire.proofs.StateLaws.{flags_all, flags_end, flags_more, flags_stop}
-use borrow.Author.Rules.{rules}
-use native.Mathlib.Omega.{arith}
+-- `wire::state_bytes::line_flags` meets its contract. Assumes nothing.
+use Rattle.std.proofs.Common.{◌+◌, arith, rules, tests}
+use mathlib.Core.Path.{◌∙◌}
+use Rattle.std.proofs.lemmas.Iterator.{YieldsList-from_range, serves_from_Range}
+use Rattle.std.proofs.lemmas.Iterator.Search.{all_from_yields_List}
+use Rattle.wire.specs.StateBytes.{is_flag, comment_word}
+use Rattle.wire.proofs.StateLaws.{flags_list}
 use Rattle.wire.proofs.state_bytes.line_flags.Goals as goal
 
-pub loop-k-init : goal.loop-k-init
-loop-k-init c = (search rules, flags_all _ _)
-
-pub loop-k-preserved : goal.loop-k-preserved
-loop-k-preserved c = (
-  omega arith,
-  flags_more c.args.state.now c.args.n c.loop-k.k c.loop-k-test.true
-      (sym c.is_flag.ensures ∙ c.if-is_flag.true)
-      ∙ c.loop-k.invariant.1,
-)
-
-pub returns-else-is_flag : goal.returns-else-is_flag
-returns-else-is_flag c =
-    flags_stop c.args.state.now c.args.n c.loop-k.k c.loop-k-test.true (sym c.is_flag.ensures ∙ c.if-is_flag.false)
-    ∙ c.loop-k.invariant.1
+pub all-requires : goal.all-requires
+all-requires c = record { can = tt; finite = tt; callable = serves_from_Range (λ x q k. search (rules, tests)) (λ x low high. search rules) }
 
 pub returns : goal.returns
-returns c = flags_end c.args.state.now c.args.n c.loop-k.k c.loop-k-test.false ∙ c.loop-k.invariant.1
+returns c =
+    all_from_yields_List (λ k. is_flag c.args.state.now (comment_word k + 3)) _ _ _ c.all.ensures.ran
+    (YieldsList-from_range 0 c.args.n c.args.n (cc) (omega arith)) (λ x b q k. search (rules, tests))
+    ∙ flags_list c.args.state.now 0 c.args.n

@@ -10,4 +10,4 @@ pub returns : goal.returns
 returns c =
     -- found before the places have names: they are more records than a search looks at
     let long : length c.args.queue.now ≡ 1024 = search rules in
-    flags_in c.as_word.ensures c.as_word-2.ensures c.as_word-3.ensures (both_written c.args.state.now _ _ c.args.queue.now c.requires.0 c.write.ensures refl long _ c.write-2.ensures)
+    flags_in _ _ _ c.from.ensures c.from-2.ensures c.from-3.ensures c.from-4.ensures (both_written c.args.state.now _ _ c.args.queue.now c.requires.0 c.write.ensures refl long _ c.write-2.ensures)

@@ -1,5 +1,4 @@
 -- `wire::word::write` meets its contract. The invariant: i words are written, and the rest is as it was. Assumes nothing.
-use Prim.Native.Nat.{◌-◌}
 use Rattle.wire.proofs.WordLaws.{write_end, write_start, write_turn}
 use mathlib.Core.Path.{refl}
 use native.Mathlib.Omega.{arith}
@@ -18,4 +17,4 @@ pub shape_of-to : goal.shape_of-to
 shape_of-to c = c.loop-i.invariant.long
 
 pub returns : goal.returns
-returns c = write_end c.loop-i.invariant c.loop-i-test.false (λ k. omega (arith, c.shared_slice_known-1.given k))
+returns c = write_end c.loop-i.invariant c.loop-i-test.false (λ k. omega (arith, c.type_inv.words k))

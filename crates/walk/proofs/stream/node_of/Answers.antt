@@ -1,6 +1,0 @@
--- `walk::stream::node_of` meets its contract. Assumes nothing.
-use Rattle.walk.proofs.{StreamLaws.node_is}
-use Rattle.walk.proofs.stream.node_of.Goals as goal
-
-pub returns : goal.returns
-returns c = node_is _ _
