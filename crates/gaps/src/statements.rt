@@ -142,7 +142,7 @@ pub fn leave(
     comments(src, table, fmt, queue, out, Hint::Suffix);
 }
 
-// Either end of a group: a parenthesis, or the mark of an empty group, which is not written.
+// Either end of a group: a parenthesis, or the mark of an empty group, which is not written. `paren` is a byte, as the definition has it.
 pub fn group_end(
     src: &[u8],
     table: &[u32],

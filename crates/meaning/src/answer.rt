@@ -79,7 +79,7 @@ impl fmt::Display for Refusal {
     }
 }
 
-// The number that an operator sees, 0 where nothing is refused.
+// The number that an operator sees, 0 where nothing is refused: C gets an answer as its number and its place.
 pub fn number(a: Answer) -> u32
     ensures { result ≡ (seen a).number }
 {
@@ -99,7 +99,7 @@ pub fn place(a: Answer) -> usize
     }
 }
 
-// The answer of this number and place.
+// The answer of this number and place, the other way: the definition `Placed` reads back by it.
 pub fn answer_of(n: usize, p: usize) -> Answer
     ensures { result ≡ answer_by n p }
 {

@@ -89,7 +89,7 @@ pub fn arm_pat(
     default_or_pat(src, table, fmt, queue, out, p);
 }
 
-// The token between an arm's pattern and its value or guard.
+// The token between an arm's pattern and its value or guard; a byte, since a function of the cycle hands it on, and none has a type parameter.
 #[tactic(auto, unfolding(kinds::specs::Facts::byte_of, kinds::specs::Facts::facts_of))]
 pub fn guard_kind(in_match: bool) -> u8
     ensures { result ≡ guard_kind in_match }
