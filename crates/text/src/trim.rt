@@ -25,7 +25,7 @@ fn ends_3000(s: &[u8]) -> bool
     matches!(s, [.., 0xE3, 0x80, 0x80])
 }
 
-// How many bytes the White_Space character has that ends the text: 0 where none does.
+// How many bytes the White_Space character has that ends the text: 0 where none does, as the definition has it.
 fn white_end(s: &[u8]) -> usize
     requires { 0 < length s.now }
     ensures { result ≡ white_end s.now }
