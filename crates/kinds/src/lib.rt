@@ -209,6 +209,7 @@ pub trait KindByte: Copy {
 impl KindByte for u8 {
     ghost as_byte = { λ b. b };
 
+    #[inline(always)]
     fn as_byte(self) -> u8 {
         self
     }
@@ -217,6 +218,7 @@ impl KindByte for u8 {
 impl KindByte for Kind {
     ghost as_byte = { byte_of };
 
+    #[inline(always)]
     fn as_byte(self) -> u8 {
         self.byte()
     }

@@ -1,11 +1,12 @@
 -- Writes into a buffer: a byte over and over, a text, a gap with a text behind it. Assumes nothing.
-use Rattle.text.proofs.Base.{◌≡◌, sym, ap, ◌∙◌, List, [], ◌∷◌, ◌++◌, ℕ, suc, ◌+◌, ◌≤◌, arith}
-use Rattle.text.proofs.Base.{length, take, drop}
+use Rattle.text.proofs.Base.{◌≡◌, sym, ap, ◌∙◌, List, [], ◌∷◌, ◌++◌, ℕ, suc, ◌+◌, ◌<◌, ◌≤◌, arith}
+use Rattle.text.proofs.Base.{length, get_or, take, drop}
 use mathlib.Core.List.{append_assoc}
 use native.Mathlib.Nat.{add-zero}
+use native.Mathlib.Numerals.{add-one}
 use borrow.Rule.Slice.PartMut.{mid_of, put_mid}
-use lib.ListN.{set, replicate, length-replicate, length-append, length-take, length-drop}
-use lib.Seq.{sets, sets-eq, drop-drop}
+use lib.ListN.{set, replicate, length-replicate, length-append, length-take, length-drop, drop_of_length-le}
+use lib.Seq.{sets, sets-eq, drop-cons, drop-drop}
 use Rattle.meaning.specs.Pieces.{newline, space}
 use Rattle.lent.specs.{declared.room.Gap.Gap, View.gap_bytes}
 
@@ -17,6 +18,13 @@ pub fill_sets : (l : List ℕ) (at k n b : ℕ) {s : List ℕ} → k ≡ n → a
 fill_sets l at k n b e h q =
     let m : length (mid_of at k l) ≡ n = simp (length-take, length-drop) (omega arith) in
     rw (q, m) (put_sets l (replicate n b) at k (simp length-replicate e) (simp length-replicate h))
+
+-- a text, byte by byte: the rest from one byte on is that byte and the rest behind it, and behind the last there is none
+pub copy_turn : (l t : List ℕ) (at i : ℕ) → i < length t → sets l (at + i) (drop i t) ≡ sets (set l (at + i) (get_or t i 0)) (at + (i + 1)) (drop (i + 1) t)
+copy_turn l t at i h = let q : at + suc i ≡ suc (at + i) = omega arith in rw (add-one i, q, drop-cons t i 0 h)
+
+pub copy_end : (l t : List ℕ) (at i : ℕ) → length t ≤ i → sets l (at + i) (drop i t) ≡ l
+copy_end l t at i h = rw (drop_of_length-le t h)
 
 -- two stores, one behind the other
 pub sets_append : (l s t : List ℕ) (i : ℕ) → sets l i (s ++ t) ≡ sets (sets l i s) (i + length s) t

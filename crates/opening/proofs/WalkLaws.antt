@@ -61,18 +61,18 @@ stops (Deep i) g = refl
 
 -- ---- the first record of a part: what `look` says of it
 
-module _ (src list : List ℕ) (hi : ℕ) (p : Part) where
-  pub look_many : 8192 ≤ p.first.0 → Err (Bad (record { 0 = 8192 })) ≡ next_of src list p hi
+module _ (src : List ℕ) (hi : ℕ) (p : Part) (r : Record) where
+  pub look_many : 8192 ≤ p.first.0 → Err (Bad (record { 0 = 8192 })) ≡ next_of src p r hi
   unfolding next_of
   look_many h = sym (rw (le-leb 8192 p.first.0 h))
 
-  pub look_kept : {r : Record} → p.first.0 < 8192 → r ≡ head_of list p → true ≡ keeps src p.from.0 hi (p.left.0 - 1) r → Ok r ≡ next_of src list p hi
+  pub look_kept : p.first.0 < 8192 → true ≡ keeps src p.from.0 hi (p.left.0 - 1) r → Ok tt ≡ next_of src p r hi
   unfolding next_of
-  look_kept h e k = sym (rw (lt-leb 8192 p.first.0 h, ← e, ← k))
+  look_kept h k = sym (rw (lt-leb 8192 p.first.0 h, ← k))
 
-  pub look_bad : {r : Record} → p.first.0 < 8192 → r ≡ head_of list p → false ≡ keeps src p.from.0 hi (p.left.0 - 1) r → Err (Bad p.first) ≡ next_of src list p hi
+  pub look_bad : p.first.0 < 8192 → false ≡ keeps src p.from.0 hi (p.left.0 - 1) r → Err (Bad p.first) ≡ next_of src p r hi
   unfolding next_of
-  look_bad h e k = sym (rw (lt-leb 8192 p.first.0 h, ← e, ← k))
+  look_bad h k = sym (rw (lt-leb 8192 p.first.0 h, ← k))
 
 -- it keeps the rules
 pub record Meets (src list : List ℕ) (all : Part) (hi d : ℕ) (p : Part) (r : Record) : Type 0 where
@@ -82,14 +82,14 @@ pub record Meets (src list : List ℕ) (all : Part) (hi d : ℕ) (p : Part) (r :
   pub read : r ≡ head_of list p
   pub kept : keeps src p.from.0 hi (p.left.0 - 1) r ≡ true
 
-pub meets : {src list : List ℕ} {all : Part} {hi d : ℕ} {p : Part} {n : Result Record Fault} {r : Record} → Going src list all hi d p → 0 < p.left.0 → n ≡ next_of src list p hi → n ≡ Ok r → Meets src list all hi d p r
+pub meets : {src list : List ℕ} {all : Part} {hi d : ℕ} {p : Part} {n : Result (Unit {0}) Fault} {r : Record} {u : Unit {0}} → Going src list all hi d p → 0 < p.left.0 → r ≡ head_of list p → n ≡ next_of src p r hi → n ≡ Ok u → Meets src list all hi d p r
 unfolding next_of
-meets {src} {list} {all} {hi} {d} {p} {n} {r} v some e f = go (leb 8192 p.first.0) (keeps src p.from.0 hi (p.left.0 - 1) (head_of list p)) refl refl (sym f ∙ e)
+meets {src} {list} {all} {hi} {d} {p} {n} {r} {u} v some read e f = go (leb 8192 p.first.0) (keeps src p.from.0 hi (p.left.0 - 1) r) refl refl (sym f ∙ e)
   where
-    go : (t u : Bool) → leb 8192 p.first.0 ≡ t → keeps src p.from.0 hi (p.left.0 - 1) (head_of list p) ≡ u → ◌≡◌ {A = Result Record Fault} (Ok r) (cond t (Err (Bad (record { 0 = 8192 }))) (cond u (Ok (head_of list p)) (Err (Bad p.first)))) → Meets src list all hi d p r
-    go true u a b g = let z : ◌≡◌ {A = ℕ} 0 1 = cc in absurd (omega arith)
+    go : (t k : Bool) → leb 8192 p.first.0 ≡ t → keeps src p.from.0 hi (p.left.0 - 1) r ≡ k → ◌≡◌ {A = Result (Unit {0}) Fault} (Ok u) (cond t (Err (Bad (record { 0 = 8192 }))) (cond k (Ok tt) (Err (Bad p.first)))) → Meets src list all hi d p r
+    go true k a b g = let z : ◌≡◌ {A = ℕ} 0 1 = cc in absurd (omega arith)
     go false false a b g = let z : ◌≡◌ {A = ℕ} 0 1 = cc in absurd (omega arith)
-    go false true a b g = let q : r ≡ head_of list p = cc in record { going = v; some = some; few = leb-false 8192 p.first.0 a; read = q; kept = rw q b }
+    go false true a b g = record { going = v; some = some; few = leb-false 8192 p.first.0 a; read = read; kept = b }
 
 -- ---- what the level finds, by its first record
 
@@ -117,11 +117,11 @@ module _ {src list : List ℕ} {all : Part} {hi d : ℕ} {p : Part} (v : Going s
   unfolding others
   first_turn r read = ap (λ (l : List Record). level src d 0 p.first.0 p.from.0 hi (take p.left.0 l)) (first_split r read) ∙ turn src d p.first.0 p.from.0 hi p.left.0 r (later r) some (rest r read)
 
-  pub bad_one : {n : Result Record Fault} {e : Fault} → n ≡ next_of src list p hi → n ≡ Err e → Walk src list all hi d (Err e)
+  pub bad_one : {n : Result (Unit {0}) Fault} {r : Record} {e : Fault} → r ≡ head_of list p → n ≡ next_of src p r hi → n ≡ Err e → Walk src list all hi d (Err e)
   unfolding next_of
-  bad_one {n} {e} q f = refused e (go (leb 8192 p.first.0) (keeps src p.from.0 hi (p.left.0 - 1) (head_of list p)) _ (sym f ∙ q) (first_turn (head_of list p) refl) ∙ v.says)
+  bad_one {n} {r} {e} read q f = refused e (go (leb 8192 p.first.0) (keeps src p.from.0 hi (p.left.0 - 1) r) _ (sym f ∙ q) (first_turn r read) ∙ v.says)
     where
-      go : (t u : Bool) (g : Finding) → ◌≡◌ {A = Result Record Fault} (Err e) (cond t (Err (Bad (record { 0 = 8192 }))) (cond u (Ok (head_of list p)) (Err (Bad p.first)))) → level_of src list hi d p ≡ cond t (bad 8192) (cond u g (bad p.first.0)) → finding_of (Err e) ≡ level_of src list hi d p
+      go : (t u : Bool) (g : Finding) → ◌≡◌ {A = Result (Unit {0}) Fault} (Err e) (cond t (Err (Bad (record { 0 = 8192 }))) (cond u (Ok tt) (Err (Bad p.first)))) → level_of src list hi d p ≡ cond t (bad 8192) (cond u g (bad p.first.0)) → finding_of (Err e) ≡ level_of src list hi d p
       go true u g q s = sym (s ∙ ap (λ (k : Fault). finding_of (Err k)) {x = Bad (record { 0 = 8192 })} {y = e} (cc))
       go false true g q s = let z : ◌≡◌ {A = ℕ} 0 1 = cc in absurd (omega arith)
       go false false g q s = sym (s ∙ ap (λ (k : Fault). finding_of (Err k)) {x = Bad p.first} {y = e} (cc))

@@ -18,10 +18,11 @@ pub record PastLeaves (list : List ℕ) (i : ℕ) (r : Leaves) : Type 0 where
 abbrev pub head_of : List ℕ → Part → Record
 head_of list p = record_at (drop p.at list)
 
-unfoldable pub next_of : List ℕ → List ℕ → Part → ℕ → Result Record Fault
-next_of src list p hi =
+-- what is found of r, where it stands first in a part
+unfoldable pub next_of : List ℕ → Part → Record → ℕ → Result (Unit {0}) Fault
+next_of src p r hi =
     cond (leb 8192 p.first.0) (Err (Bad (record { 0 = 8192 })))
-    (cond (keeps src p.from.0 hi (p.left.0 - 1) (head_of list p)) (Ok (head_of list p)) (Err (Bad p.first)))
+    (cond (keeps src p.from.0 hi (p.left.0 - 1) r) (Ok tt) (Err (Bad p.first)))
 
 abbrev pub inside_of : Part → Record → Part
 inside_of p r = record { at = p.at + 1 + body_of r.kind; first = record { 0 = p.first.0 + 1 }; left = record { 0 = r.below }; from = r.span.start }

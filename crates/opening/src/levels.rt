@@ -79,18 +79,18 @@ fn keeps_rules(src: &[u8], r: Record, lo: BytePos, hi: BytePos, n: Records) -> b
         && in_source(src, r.span)
 }
 
-// The first record of a part that has one: too many records, a broken rule, or neither.
-fn look(src: &[u8], list: &[u8], part: Part, hi: BytePos) -> Result<Record, Fault>
+// Of r, the first record of a part: one too many, a broken rule, or neither. The record is handed in, since a Result with one in it goes
+// through memory at every record.
+fn look(src: &[u8], part: Part, r: Record, hi: BytePos) -> Result<(), Fault>
     requires { 0 < part.left.0 }
-    ensures { result ≡ next_of src.now list.now part hi.0 }
+    ensures { result ≡ next_of src.now part r hi.0 }
 {
     let first = part.first;
     if 8192 <= first.0 {
         return Err(Fault::Bad(RecordNo(8192)));
     }
-    let r = record_at(list, part.at);
     if keeps_rules(src, r, part.from, hi, Records(part.left.0 - 1)) {
-        return Ok(r);
+        return Ok(());
     }
     Err(Fault::Bad(first))
 }
@@ -131,7 +131,8 @@ fn level(src: &[u8], list: &[u8], all: Part, hi: BytePos, d: u32) -> Result<usiz
 {
     let mut part = all;
     while 0 < part.left.0 {
-        let r = look(src, list, part, hi)?;
+        let r = record_at(list, part.at);
+        look(src, part, r, hi)?;
         if d == 0 {
             return Err(Fault::Deep(part.first));
         }

@@ -9,6 +9,15 @@ pub struct Unpacked {
     pub len: usize,
 }
 
+// A sum of places that stays at 2^31 once either is at 2^30: whoever reads a file at places below 2^30 alone begins again at its front.
+pub fn plus(a: usize, b: usize) -> usize {
+    if a < 0x4000_0000 && b < 0x4000_0000 {
+        a + b
+    } else {
+        0x8000_0000
+    }
+}
+
 // The byte at a place, 0 behind the end.
 pub fn byte(file: &[u8], at: usize) -> u8 {
     file.get(at).copied().unwrap_or(0)

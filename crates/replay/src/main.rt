@@ -44,7 +44,7 @@ fn one(
         with_runs,
         counts,
     );
-    at.saturating_add(len)
+    packed::plus(at, len)
 }
 
 fn replay(

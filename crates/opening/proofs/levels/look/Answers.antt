@@ -7,7 +7,7 @@ pub returns-then-first-ge8192 : goal.returns-then-first-ge8192
 returns-then-first-ge8192 c = look_many _ _ _ _ c.if-first-ge8192.true
 
 pub returns-then-keeps_rules : goal.returns-then-keeps_rules
-returns-then-keeps_rules c = look_kept _ _ _ _ c.if-first-ge8192.false c.record_at-r.ensures (sym c.if-keeps_rules.true ∙ c.keeps_rules.ensures)
+returns-then-keeps_rules c = look_kept _ _ _ _ c.if-first-ge8192.false (sym c.if-keeps_rules.true ∙ c.keeps_rules.ensures)
 
 pub returns : goal.returns
-returns c = look_bad _ _ _ _ c.if-first-ge8192.false c.record_at-r.ensures (sym c.if-keeps_rules.false ∙ c.keeps_rules.ensures)
+returns c = look_bad _ _ _ _ c.if-first-ge8192.false (sym c.if-keeps_rules.false ∙ c.keeps_rules.ensures)
