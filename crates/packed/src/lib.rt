@@ -2,6 +2,8 @@
 // read is answered.
 #![tactic(auto)]
 
+ghost use Rattle.std.specs.Prelude.{◌≡◌, ◌+◌, ◌&&◌, cond, ltb};
+
 // Bytes unpacked: where the file goes on, and how many there are.
 #[derive(Clone, Copy)]
 pub struct Unpacked {
@@ -9,8 +11,11 @@ pub struct Unpacked {
     pub len: usize,
 }
 
-// A sum of places that stays at 2^31 once either is at 2^30: whoever reads a file at places below 2^30 alone begins again at its front.
-pub fn plus(a: usize, b: usize) -> usize {
+// The sum of two places, 2^31 where either is 2^30 or more. No saturating sum of the library: `replay` reads a file at places modulo 2^30, and
+// has to come out at its front behind a place that no file has.
+pub fn plus(a: usize, b: usize) -> usize
+    ensures { result ≡ cond (ltb a 0x40000000 && ltb b 0x40000000) (a + b) 0x80000000 }
+{
     if a < 0x4000_0000 && b < 0x4000_0000 {
         a + b
     } else {
