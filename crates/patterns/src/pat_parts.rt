@@ -20,7 +20,8 @@ use tree::record::RecordNo;
 use walk::stream::{Stream, records_of};
 use walk::tokens::{any, token, token_if};
 
-// Attributes in front of a pattern stay on its line.
+// Attributes in front of a pattern stay on its line. Inlined: every pattern asks, and most have none.
+#[inline(always)]
 pub fn pat_attributes(
     src: &[u8],
     table: &[u32],

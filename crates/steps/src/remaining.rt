@@ -81,7 +81,8 @@ impl Remaining {
     }
 }
 
-// A second one is refused.
+// A second one is refused. Inlined, as `take_remaining` and `put_remaining` are: a list has them at every item.
+#[inline(always)]
 fn once(table: &[u32], fmt: &mut Formatter, p: &Stream, mark: Mark)
     ensures { Refused fmt (second (tree table) mark (stream_here table p)) }
 {
@@ -91,6 +92,7 @@ fn once(table: &[u32], fmt: &mut Formatter, p: &Stream, mark: Mark)
 }
 
 // None or one.
+#[inline(always)]
 pub fn take_remaining(table: &[u32], fmt: &mut Formatter, p: &mut Stream, mark: Mark) -> Remaining
     ensures { Rested table fmt p mark result }
 {
@@ -177,6 +179,7 @@ pub fn write_only_if(
 }
 
 // `p.remaining(fmt, K)?.fmt(fmt)?`.
+#[inline(always)]
 pub fn put_remaining(
     src: &[u8],
     table: &[u32],

@@ -34,6 +34,7 @@ pub fn records_of(table: &[u32], k: RecordNo) -> Stream
     }
 }
 
+// A rule asks at every record: `peek`, `next_is`, `take` and `eat` are inlined, as a call of each costs more than what it does.
 impl Stream {
     // The node whose records these are.
     pub fn node_of(&self, table: &[u32]) -> RecordNo
@@ -43,6 +44,7 @@ impl Stream {
     }
 
     // The next record.
+    #[inline(always)]
     pub fn peek(&self, table: &[u32]) -> Option<RecordNo>
         ensures { Peeked (stream_here table self) result }
     {
@@ -57,6 +59,7 @@ impl Stream {
     }
 
     // Whether the next record is of this kind.
+    #[inline(always)]
     pub fn next_is<K: KindByte>(&self, table: &[u32], kind: K) -> bool
         ensures { result ≡ next_is (is_byte (tree table) (K.as_byte kind)) (stream_here table self) }
     {
@@ -67,6 +70,7 @@ impl Stream {
     }
 
     // The stream goes on behind record k.
+    #[inline(always)]
     fn pass_over(&mut self, table: &[u32], k: RecordNo)
         ensures { stream_out table self ≡ passed (tree table) self.old k.0 }
     {
@@ -74,6 +78,7 @@ impl Stream {
     }
 
     // The next record, whatever it is.
+    #[inline(always)]
     pub fn take(&mut self, table: &[u32]) -> Option<RecordNo>
         ensures { Ate (take_any (stream_in table self)) result (stream_out table self) }
     {
@@ -83,6 +88,7 @@ impl Stream {
     }
 
     // The next record, if it is of this kind.
+    #[inline(always)]
     pub fn eat<K: KindByte>(&mut self, table: &[u32], kind: K) -> Option<RecordNo>
         ensures { Ate (take_if (is_byte (tree table) (K.as_byte kind)) (stream_in table self)) result (stream_out table self) }
     {
